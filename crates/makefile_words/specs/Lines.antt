@@ -20,7 +20,8 @@ use Rattle.makefile_words.specs.declared.line.Field.TheVariants.{Objects, Progra
 use Rattle.makefile_words.specs.declared.line.IdleAt.{IdleAt}
 use Rattle.makefile_words.specs.declared.line.Part.{Part}
 use Rattle.makefile_words.specs.declared.line.Part.TheVariants.{Front, Behind}
-use Rattle.makefile_words.specs.declared.settings.Ordering.TheVariants.{Meeting}
+use Rattle.makefile_words.specs.declared.settings.Ordering.{Ordering}
+use Rattle.makefile_words.specs.declared.settings.Ordering.TheVariants.{Dosseg, Meeting, WithoutNulls}
 use Rattle.makefile_words.specs.declared.settings.Setting.{Setting}
 use Rattle.makefile_words.specs.declared.settings.Setting.TheVariants as setting
 use Rattle.makefile_words.specs.declared.settings.Settings.{Settings}
@@ -81,6 +82,12 @@ nothing_said language = record {
 
 -- ---- options
 
+-- the order behind an option that says one: /NONULLSDOSSEG holds, whatever stands behind it
+abbrev pub later_order : (had said : Ordering) → Ordering
+later_order WithoutNulls said = WithoutNulls
+later_order Meeting said = said
+later_order Dosseg said = said
+
 -- the settings behind an option that says one of them
 abbrev pub changed : Setting → Settings → Settings
 changed (setting.Case on) s = record s { case_counts = on }
@@ -92,7 +99,7 @@ changed (setting.Detailed on) s = record s { detailed = on }
 changed (setting.WritesAll on) s = record s { writes_all = on }
 changed setting.Verbose s = record s { verbose = true }
 changed (setting.Form form) s = record s { form = form }
-changed (setting.Order order) s = record s { order = order }
+changed (setting.Order order) s = record s { order = later_order s.order order }
 changed (setting.Stack bytes) s = record s { stack = Some bytes }
 changed (setting.MostExtra paragraphs) s = record s { most_extra = Some paragraphs }
 changed setting.Folders s = s
@@ -151,9 +158,13 @@ options_meaning place language (Some text) said = with_options place language (o
 abbrev pub is_dot : ℕ → Bool
 is_dot byte = byte == 46
 
--- whether a name is this device, with any extension
+-- what of a name may be that of a device: no extension, and no colon behind it
+abbrev pub device_part : Text → Text
+device_part name = before_first is_colon (before_first is_dot name)
+
+-- whether a name is this device, with any extension or a colon behind it
 abbrev pub is_device : Text → Text → Bool
-is_device name device = is_keyword (before_first is_dot name) device
+is_device name device = is_keyword (device_part name) device
 
 -- `NUL`: no file
 abbrev pub is_null : Text → Bool
@@ -170,10 +181,9 @@ is_port text =
 abbrev pub is_console : Text → Bool
 is_console name = is_device name (codes "con")
 
--- the other devices, which are no files to write, with any extension
+-- the other devices, which are no files to write, with any extension or a colon behind it
 abbrev pub is_refused : Text → Bool
-is_refused name =
-    is_device name (codes "prn") || is_device name (codes "aux") || is_port (before_first is_dot name)
+is_refused name = is_device name (codes "prn") || is_device name (codes "aux") || is_port (device_part name)
 
 -- whether a name ends with a byte that stands behind folders: a backslash, `/` or `:`
 abbrev pub is_folder : Text → Bool
@@ -230,7 +240,7 @@ name_meaning name said = if begins_with 64 name then Err fault.Response else put
 
 -- what a word's name says, where it has one
 abbrev pub named_meaning : Option Text → SaidLine → Result SaidLine FaultKind
-named_meaning None said = Ok (record said { continued = false })
+named_meaning None said = Ok said
 named_meaning (Some name) said = name_meaning name said
 
 -- a word: its name, and then its options
@@ -287,13 +297,13 @@ is_ended Ended = true
 abbrev pub reached : Field → Settings → Settings
 reached field s = record s { makes_map = s.makes_map || is_map field }
 
--- a comma ends a field
+-- a comma ends a field, and a line's end behind it ends no other one
 abbrev pub comma_meaning : SaidLine → Result SaidLine FaultKind
 comma_meaning said =
     if is_last said.field then Err fault.TooManyFields
     else Ok (record said {
       field = later said.field;
-      continued = false;
+      continued = true;
       settings = reached (later said.field) said.settings;
     })
 
@@ -301,7 +311,7 @@ comma_meaning said =
 abbrev pub is_before_objects : SaidLine → Bool
 is_before_objects said = is_objects said.field && length said.inputs == 0
 
--- a line's end: nothing behind `+`, or before the first object; else the field ends
+-- a line's end: nothing behind `+` or a comma, or before the first object; else the field ends
 abbrev pub line_end_meaning : SaidLine → SaidLine
 line_end_meaning said =
     if said.continued then record said { continued = false }

@@ -42,7 +42,7 @@ first_named =
     ∷ (codes "EXEPACK", 1, setting.Warned idle.Packing)  -- a packed file
     ∷ (codes "FARCALLTRANSLATION", 1, setting.Warned idle.Packing)  -- far calls as near ones
     ∷ (codes "INFORMATION", 3, setting.Verbose)  -- tell what is done
-    ∷ (codes "LINENUMBERS", 2, setting.LineNumbers true)  -- a map with line numbers
+    ∷ (codes "LINENUMBERS", 1, setting.LineNumbers true)  -- a map with line numbers
     ∷ (codes "MAP", 1, setting.Publics true)  -- a map with publics
     ∷ (codes "NODEFAULTLIBRARYSEARCH", 3, setting.NoDefaults true)  -- no default libraries
     ∷ []

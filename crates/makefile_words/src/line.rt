@@ -64,7 +64,7 @@ pub(crate) struct Line<'a> {
     pub settings: Settings,
     /// The field of the next name.
     pub field: Field,
-    /// Whether `+` stood last.
+    /// Whether `+` or a comma stood last.
     pub continued: bool,
 }
 
@@ -168,6 +168,16 @@ impl<'a> Line<'a> {
     }
 }
 
+// The order behind an option that says one: /NONULLSDOSSEG holds, whatever stands behind it.
+fn later_order(had: Ordering, said: Ordering) -> Ordering
+    ensures { result ≡ spec.later_order had said }
+{
+    match had {
+        Ordering::WithoutNulls => Ordering::WithoutNulls,
+        Ordering::Meeting | Ordering::Dosseg => said,
+    }
+}
+
 impl Setting {
     // Puts what an option says of one of the settings.
     pub(crate) fn put(self, settings: &mut Settings)
@@ -183,7 +193,7 @@ impl Setting {
             Setting::WritesAll(on) => settings.writes_all = on,
             Setting::Verbose => settings.verbose = true,
             Setting::Form(form) => settings.form = form,
-            Setting::Order(order) => settings.order = order,
+            Setting::Order(order) => settings.order = later_order(settings.order, order),
             Setting::Stack(bytes) => settings.stack = Some(bytes),
             Setting::MostExtra(paragraphs) => settings.most_extra = Some(paragraphs),
             _ => {}

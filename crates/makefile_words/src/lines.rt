@@ -40,7 +40,7 @@ fn follow_comma(line: &mut Line) -> Result<(), WordFault>
         return Err(WordFault::Wrong(FaultKind::TooManyFields));
     }
     line.field = line.field.later();
-    line.continued = false;
+    line.continued = true;
     line.settings.makes_map = line.settings.makes_map || line.field.is_map();
     Ok(())
 }

@@ -116,7 +116,7 @@ fn first_named(word: &[u8]) -> Option<Setting>
         Some(Setting::Warned(Idle::Packing))
     } else if is_short(word, b"INFORMATION", 3) {
         Some(Setting::Verbose)
-    } else if is_short(word, b"LINENUMBERS", 2) {
+    } else if is_short(word, b"LINENUMBERS", 1) {
         Some(Setting::LineNumbers(true))
     } else if is_short(word, b"MAP", 1) {
         Some(Setting::Publics(true))

@@ -29,11 +29,22 @@ fn stem(name: &str) -> &str
     }
 }
 
-/// Whether a name is `NUL`, with any extension.
+// What of a name may be that of a device: without an extension, and without a colon behind it.
+fn device_part(name: &str) -> &str
+    ensures { result.now ≡ spec.device_part name.now }
+{
+    let stem = stem(name);
+    match stem.split_once(':') {
+        Some((device, _)) => device,
+        None => stem,
+    }
+}
+
+/// Whether a name is `NUL`, with any extension, or a colon.
 pub(crate) fn is_null(name: &str) -> bool
     ensures { result ≡ spec.is_null name.now }
 {
-    is(stem(name), "nul")
+    is(device_part(name), "nul")
 }
 
 // Whether a name is `LPT` or `COM` with a digit behind it, 1 to 9.
@@ -48,18 +59,18 @@ fn is_port(name: &str) -> bool
     }
 }
 
-/// Whether a name is `CON`, with any extension.
+/// Whether a name is `CON`, with any extension, or a colon.
 pub(crate) fn is_console(name: &str) -> bool
     ensures { result ≡ spec.is_console name.now }
 {
-    is(stem(name), "con")
+    is(device_part(name), "con")
 }
 
 // Whether a name is another device that is no file to write.
 fn is_refused(name: &str) -> bool
     ensures { result ≡ spec.is_refused name.now }
 {
-    let name = stem(name);
+    let name = device_part(name);
     is(name, "prn") || is(name, "aux") || is_port(name)
 }
 
@@ -161,9 +172,6 @@ pub(crate) fn put_name<'a>(line: &mut Line<'a>, name: Option<&'a str>) -> Result
     match name {
         Some(name) if begins_with(b'@', name) => Err(WordFault::Wrong(FaultKind::Response)),
         Some(name) => put_field(line, name),
-        None => {
-            line.continued = false;
-            Ok(())
-        }
+        None => Ok(()),
     }
 }

@@ -239,10 +239,6 @@ kind: ShortForSeveral
 =>
 kind: ShortForSeveral
 ---
-/L main;
-=>
-kind: UnknownOption
----
 / main;
 =>
 kind: UnknownOption

@@ -4,7 +4,20 @@ use makefile_words::Language;
 
 #[test]
 fn reads_lines(rt: HostRuntime) {
-    let table = r#"/CODEVIEW STATS,,;
+    let table = r#"main.obj+
+util.obj,
+prog.exe,
+prog.map,
+slibce.lib,
+nul.def;
+=>
+inputs: [File("main.obj"), File("util.obj"), Library("slibce.lib")], out: Some("prog.exe"), map: Some(At("prog.map"))
+---
+/NON/DO/L main;
+=>
+ignore_case: true, order: Dosseg, null_bytes: false
+---
+/CODEVIEW STATS,,;
 =>
 inputs: [File("STATS")], out: None, map: Some(Beside)
 ---

@@ -342,6 +342,14 @@ main,,prn
 =>
 kind: Device
 ---
+main,NUL:
+=>
+Err(Word { place: 5, word: "NUL:", kind: Device })
+---
+main,,Lpt1:
+=>
+kind: Device
+---
 main,,,,prog.def
 =>
 kind: Definitions

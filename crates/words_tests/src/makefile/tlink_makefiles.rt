@@ -114,7 +114,42 @@ inputs: [File("c0s.obj"), File("first.obj"), File("second.obj"), Library("cs.lib
 ---
 -jOBJ -LLIB -c c0s main util,prog,nul,cs
 =>
-inputs: [File("c0s"), File("main"), File("util"), Library("cs")], out: Some("prog"), map: None, map_form: Tlink, folders: ["LIB"], object_folders: ["OBJ"], ignore_case: false"#;
+inputs: [File("c0s"), File("main"), File("util"), Library("cs")], out: Some("prog"), map: None, map_form: Tlink, folders: ["LIB"], object_folders: ["OBJ"], ignore_case: false
+---
+/c /x /v c0s.obj main.obj, main.exe,, emu.lib maths.lib cs.lib graphics.lib
+=>
+inputs: [File("c0s.obj"), File("main.obj"), Library("emu.lib"), Library("maths.lib"), Library("cs.lib"), Library("graphics.lib")], out: Some("main.exe"), map: None
+---
+c0s.obj+
+main.obj+
+util.obj,
+main.exe,
+main.map,
+emu.lib+
+maths.lib+
+cs.lib
+=>
+inputs: [File("c0s.obj"), File("main.obj"), File("util.obj"), Library("emu.lib"), Library("maths.lib"), Library("cs.lib")], out: Some("main.exe"), map: Some(At("main.map"))
+---
+/x /n /t start.obj, start.com
+=>
+inputs: [File("start.obj")], out: Some("start.com"), map: None, map_form: Tlink, folders: [], object_folders: [], ignore_case: true, order: Meeting, null_bytes: false, stack: None, form: Some(Com), default_libraries: false
+---
+/m/s/l c0c prog, , , ..\lib\mine emu mathc cc
+=>
+inputs: [File("c0c"), File("prog"), Library("..\\lib\\mine"), Library("emu"), Library("mathc"), Library("cc")], out: None, map: Some(Beside), map_form: NumberedTlink
+---
+/Tde /c /x /3 c0l.obj dpmi.obj, demo.exe, , cl.lib
+=>
+inputs: [File("c0l.obj"), File("dpmi.obj"), Library("cl.lib")], out: Some("demo.exe"), map: None, map_form: Tlink, folders: [], object_folders: [], ignore_case: false, order: Meeting, null_bytes: false, stack: None, form: Some(Exe)
+---
+/v /c /m /Lc:\tp\lib;c:\bc\lib c0l.obj a.obj b.obj, game
+=>
+inputs: [File("c0l.obj"), File("a.obj"), File("b.obj")], out: Some("game"), map: Some(Beside), map_form: Tlink, folders: ["c:\\tp\\lib", "c:\\bc\\lib"]
+---
+c0s a b c,abc/x
+=>
+inputs: [File("c0s"), File("a"), File("b"), File("c")], out: Some("abc"), map: None"#;
     hold_in(&rt, rt.alloc(), Language::Tlink, table);
 }
 
