@@ -1,11 +1,11 @@
 -- What holds of loops over the parts of a directive.
-use Rattle.std.proofs.Common.{◌≡◌, ℕ, zero, suc, ◌+◌, ◌<◌, ◌≤◌, Bool, true, false, cond, List, [], ◌∷◌, ◌++◌, length, drop, get_or}
-use Rattle.std.proofs.Common.{Option, None, Result, Ok, Err, refl, sym, ap, ◌∙◌, ◌⊎◌, ◌-◌, arith, inl, inr, length-drop}
+use Rattle.std.proofs.Common.{◌≡◌, ℕ, zero, suc, ◌+◌, ◌<◌, ◌≤◌, Bool, true, false, List, [], ◌∷◌, ◌++◌, length, drop, get_or}
+use Rattle.std.proofs.Common.{Option, None, Result, Ok, Err, refl, sym, ap, ◌∙◌, ◌-◌, arith, inl, inr, length-drop}
 use Rattle.std.proofs.Common.{not, map, Some, take}
 use Rattle.std.specs.List.{drop-map, position_or_len, take-map}
 use Rattle.std.specs.Borrow.{Bor}
 use Rattle.std.proofs.lemmas.Bool.{cases_lt, not-true}
-use Rattle.std.proofs.lemmas.List.{at_drop_all, at_drop_more, drop-drop, get_or-map, length-map, take_all}
+use Rattle.std.proofs.lemmas.List.{at_drop_more, drop-drop, get_or-map, length-map, take_all}
 use Rattle.std.proofs.lemmas.List.Splits.{slice_split_first, slice_split_none}
 use Rattle.std.proofs.lemmas.List.Sums.{prefix_len-drop_no, prefix_len-drop_yes}
 use Rattle.std.proofs.lemmas.List.Sums.{prefix_len-le-length, prefix_len_passes}
@@ -25,10 +25,10 @@ use Rattle.doslink_words.specs.Directives.{directive_meaning, directive_of, mean
 use Rattle.doslink_words.specs.Directives.{Means}
 use Rattle.doslink_words.specs.Places.{FaultyLine, PlacedPiece, placed, with_lines}
 use Rattle.doslink_words.specs.Said.{Said, SaidItem, nothing}
-use Rattle.doslink_words.specs.Tokens.{Piece, Comma, texts}
+use Rattle.doslink_words.specs.Tokens.{Comma, texts}
 use Rattle.doslink_words.specs.inside.Faults.{IsFault, IsFaultAt, IsFaultOf, Says}
 use Rattle.doslink_words.specs.inside.Follows.{Counts, Follows, mistake_of}
-use Rattle.doslink_words.specs.inside.Parts.{aliased, line_tokens, lines_meaning, listed, named, optioned}
+use Rattle.doslink_words.specs.inside.Parts.{aliased, line_tokens, lines_meaning, listed, named}
 use Rattle.doslink_words.specs.inside.Tokens.{all_placed, operand_of, operands, placed_of}
 use Rattle.std.specs.Option.{option_map_or}
 

@@ -1,16 +1,13 @@
 -- What holds of the tokens of a line with their places.
-use Rattle.std.proofs.Common.{◌≡◌, ℕ, zero, suc, ◌+◌, ◌<◌, ◌≤◌, Bool, true, false, cond, List, [], ◌∷◌, ◌++◌, length}
-use Rattle.std.proofs.Common.{Option, Some, None, Ok, Err, refl, sym, ap, ◌∙◌, arith, add-one, append_assoc, length-drop}
-use Rattle.std.specs.Option.{option_map, option_map_or, option_and_then}
+use Rattle.std.proofs.Common.{◌≡◌, ℕ, zero, suc, ◌<◌, ◌≤◌, Bool, false, cond, List, [], ◌∷◌, ◌++◌, length}
+use Rattle.std.proofs.Common.{Option, Some, None, refl, sym, ap, ◌∙◌, arith, add-one, append_assoc, length-drop}
+use Rattle.std.specs.Option.{option_map, option_and_then}
 use Rattle.std.specs.List.{prefix_len}
 use Rattle.std.specs.Char.{is_ascii_whitespace}
-use Rattle.std.proofs.lemmas.List.{append-nil}
 use Rattle.clap.specs.Words.{Text}
-use Rattle.doslink_words.specs.declared.faults.DirectiveFaultKind.TheVariants.{UnclosedQuote}
 use Rattle.doslink_words.specs.declared.tokens.Syntax.TheVariants.{Directives}
 use Rattle.doslink_words.specs.Places.{PlacedPiece, placed, placed_below, says_nothing}
 use Rattle.doslink_words.specs.Tokens.{Piece, after_space, token}
-use Rattle.doslink_words.specs.inside.Parts.{line_tokens}
 
 -- what was had, and what comes
 abbrev pub with_front : List PlacedPiece → Option (List PlacedPiece) → Option (List PlacedPiece)

@@ -2,7 +2,7 @@
 use Rattle.std.specs.Prelude.{◌≡◌, ℕ, zero, suc, ◌==◌, ◌&&◌, ⊤, Bool, true, false, List, [], ◌∷◌, ◌++◌, codes, map}
 use Rattle.std.specs.Prelude.{take, Option, Some, None, Result, Ok, Err, if◌then◌else◌, length, nat_le}
 use Rattle.std.specs.Option.{option_and_then, option_map_or, option_or, unwrap_or}
-use Rattle.std.specs.List.{list_all, slice_split}
+use Rattle.std.specs.List.{flat_map, list_all, slice_split}
 use Rattle.std.specs.Str.Lines.{lines}
 use Rattle.clap.specs.Words.{Text}
 use Rattle.doslink_words.specs.declared.faults.DirectiveFault.{DirectiveFault}
@@ -312,10 +312,14 @@ abbrev pub with_aliases : (had : List (Text × Text)) → List (List PlacedPiece
 with_aliases had [] = Ok had
 with_aliases had (part ∷ more) = and_then (alias_of part) (λ alias. with_aliases (had ++ (alias ∷ [])) more)
 
+-- the folders that `;` parts
+abbrev pub folders_in : Text → List Text
+folders_in text = slice_split (λ byte. byte == 59) text
+
 -- `path A[;B..]`: modules are looked up in these folders too
 abbrev pub path_meaning : List PlacedPiece → Said → Line Said
 path_meaning operands said = and_then (one_name operands) (λ name.
-    Ok (record said { object_folders = said.object_folders ++ slice_split (λ byte. byte == 59) name }))
+    Ok (record said { object_folders = said.object_folders ++ folders_in name }))
 
 -- what a directive means
 abbrev pub directive_meaning : (line : ℕ) → Directive → List PlacedPiece → Said → Line Said
@@ -324,7 +328,8 @@ directive_meaning line directive.File operands said =
 directive_meaning line directive.Library operands said =
     and_then (with_list [] operands) (λ names. Ok (record said { inputs = said.inputs ++ map Library names }))
 directive_meaning line directive.Folder operands said =
-    and_then (with_list said.folders operands) (λ names. Ok (record said { folders = names }))
+    and_then (with_list [] operands) (λ names.
+    Ok (record said { folders = said.folders ++ flat_map folders_in names }))
 directive_meaning line directive.Name operands said =
     and_then (one_name operands) (λ name. Ok (record said { out = Some name }))
 directive_meaning line directive.Format operands said = form_meaning (format_meaning operands) said

@@ -57,7 +57,7 @@ is_harmless word =
     is_short word (codes "verbose") 1 || is_short word (codes "statics") 4 || is_short word (codes "artificial") 3
     || is_short word (codes "showdead") 3 || is_keyword word (codes "cache") || is_keyword word (codes "nocache")
     || is_keyword word (codes "farcalls") || is_keyword word (codes "nofarcalls")
-    || is_short word (codes "maxerrors") 4
+    || is_short word (codes "maxerrors") 4 || is_short word (codes "mangled") 3
 
 -- whether an option asks that names agree with regard to case, or without
 abbrev pub is_exact : Text → Bool

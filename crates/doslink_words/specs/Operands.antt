@@ -7,7 +7,7 @@ use Rattle.clap.specs.Words.{Text}
 use Rattle.doslink_words.specs.declared.keywords.Directive.{Directive}
 use Rattle.doslink_words.specs.declared.keywords.Directive.TheVariants as directive
 use Rattle.doslink_words.specs.Keywords.{is_keyword, is_debug_word, is_sort_word}
-use Rattle.doslink_words.specs.Tokens.{Piece, Word, Quoted, Comma, Equals, Open, Close}
+use Rattle.doslink_words.specs.Tokens.{Piece, Word, Comma, Equals, Open, Close}
 
 -- whether a token is a brace that begins a list, and one that ends it
 abbrev pub is_open : Piece → Bool

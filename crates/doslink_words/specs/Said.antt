@@ -1,11 +1,12 @@
 -- What directives ask for, by its texts.
-use Rattle.std.specs.Prelude.{Bool, true, false, List, [], Option, None, map}
+use Rattle.std.specs.Prelude.{Bool, true, false, List, [], Option, None, Some, map}
 use Rattle.std.specs.Option.{option_map}
 use Rattle.clap.specs.Words.{Text}
 use Rattle.doslink_words.specs.Tokens.{texts}
 use Rattle.doslink_words.specs.declared.job.Alias.{Alias}
 use Rattle.doslink_words.specs.declared.job.Directives.{Directives}
 use Rattle.doslink_words.specs.declared.job.Form.{Form}
+use Rattle.doslink_words.specs.declared.job.Form.TheVariants as form
 use Rattle.doslink_words.specs.declared.job.Input.{Input}
 use Rattle.doslink_words.specs.declared.job.Input.TheVariants as input
 use Rattle.doslink_words.specs.declared.job.MapFile.{MapFile}
@@ -39,6 +40,13 @@ pub data SaidOrder : Type 0 where
   Meeting : SaidOrder
   Dosseg : SaidOrder
   Listed : List SaidItem → SaidOrder
+
+-- the file of a program has a header, which says where the program starts and where its stack is
+abbrev pub has_header : Option Form → Bool
+has_header None = true
+has_header (Some form.Exe) = true
+has_header (Some (form.LimitedExe paragraphs)) = true
+has_header (Some other) = false
 
 -- a job and its warnings
 pub record Said : Type 0 where

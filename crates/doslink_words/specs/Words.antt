@@ -1,6 +1,6 @@
 -- The command line: what it takes, and which job its values are.
 use Rattle.std.specs.Prelude.{◌≡◌, ◌==◌, ℕ, true, false, not, List, [], Option, Some, None, map, codes}
-use Rattle.std.specs.Prelude.{◌∷◌, ◌||◌, Bool, if◌then◌else◌, is_some}
+use Rattle.std.specs.Prelude.{◌∷◌, ◌&&◌, ◌||◌, Bool, if◌then◌else◌, is_some}
 use Rattle.std.specs.Option.{option_and_then, option_map, unwrap_or}
 use Rattle.std.specs.List.{slice_split}
 use Rattle.std.specs.Str.{bytes_eq}
@@ -18,7 +18,8 @@ use Rattle.doslink_words.specs.declared.job.Stack.{Stack}
 use Rattle.doslink_words.specs.declared.named.Expected.TheVariants.{Any}
 use Rattle.doslink_words.specs.Keywords.{is_keyword}
 use Rattle.doslink_words.specs.Named.{in_order, kinds_named}
-use Rattle.doslink_words.specs.Said.{SaidOrder, Meeting, Dosseg, Listed, Class, At, inputs_of, map_of, order_of}
+use Rattle.doslink_words.specs.Said.{SaidOrder, Meeting, Dosseg, Listed, Class, At, has_header, inputs_of, map_of}
+use Rattle.doslink_words.specs.Said.{order_of}
 use Rattle.doslink_words.specs.Sizes.{paragraph, stack_bytes}
 use Rattle.doslink_words.specs.Tokens.{texts}
 
@@ -110,11 +111,10 @@ abbrev pub order_asked : Option Text → SaidOrder
 order_asked None = Meeting
 order_asked (Some word) = if is_dosseg word then Dosseg else Listed (map Class (slice_split (λ byte. byte == 44) word))
 
--- whether the order DOSSEG has null bytes: wherever nothing asks for none, but in a .COM file
+-- whether the order DOSSEG has null bytes: wherever nothing asks for none, in a file with a header
 abbrev pub nulls_asked : Option Text → Option Form → Bool
-nulls_asked word (Some form.Com) = false
-nulls_asked None _ = true
-nulls_asked (Some word) _ = not (is_keyword word (codes "dosseg-nonulls"))
+nulls_asked None form = has_header form
+nulls_asked (Some word) form = has_header form && not (is_keyword word (codes "dosseg-nonulls"))
 
 -- the stack as a word: a longer one is a fault
 abbrev pub stack_asked : Option Text → Option Stack

@@ -1,6 +1,6 @@
 //! The directives of a text.
-ghost use Rattle.std.specs.Prelude.{◌≡◌, ◌==◌, ◌≤◌, ◌∷◌, [], Err, IfOk, Ok, drop, length};
-ghost use Rattle.std.specs.List.{slice_split};
+ghost use Rattle.std.specs.Prelude.{◌≡◌, ◌++◌, ◌≤◌, ◌∷◌, [], Err, IfOk, Ok, OnOk, drop, length};
+ghost use Rattle.std.specs.List.{flat_map};
 ghost use Rattle.std.specs.Option.{option_map_or};
 ghost use Rattle.std.specs.Str.Lines.{lines};
 ghost use Rattle.doslink_words.specs.Directives as spec;
@@ -229,9 +229,40 @@ fn follow_library<'a>(
 
 // What `;` parts.
 fn folders_in<'a>(alloc: Global, text: &'a str) -> Result<Vec<&'a str>, AllocError>
-    ensures { IfOk result (λ folders. texts folders.items ≡ slice_split (λ byte. byte == 59) text.now) }
+    ensures { IfOk result (λ folders. texts folders.items ≡ spec.folders_in text.now) }
 {
     text.split(';').collect(alloc)
+}
+
+// Appends the folders of each name.
+fn put_folders<'a>(
+    alloc: Global,
+    folders: &mut Vec<&'a str>,
+    names: &[&'a str],
+) -> Result<(), AllocError>
+    ensures { OnOk result (texts folders.new.items
+        ≡ texts folders.old.items ++ flat_map spec.folders_in (texts names.now)) }
+{
+    for name in names {
+        let more = folders_in(alloc, name)?;
+        folders.extend_from_slice(&more)?;
+    }
+    Ok(())
+}
+
+// Follows `libpath`.
+fn follow_libpath<'a>(
+    alloc: Global,
+    directives: &mut Directives<'a>,
+    operands: &[Placed<'a>],
+) -> Result<(), LineFault<'a>>
+    ensures { Follows result
+        (spec.directive_meaning 0 directive.Folder (all_placed operands.now) (said_of directives.old))
+        (said_of directives.new) }
+{
+    let mut names = Vec::new(alloc);
+    put_list(&mut names, operands)?;
+    Ok(put_folders(alloc, &mut directives.job.folders, &names)?)
 }
 
 // Follows `path`.
@@ -261,7 +292,7 @@ fn follow_directive<'a>(
     match directive {
         Directive::File => follow_file(alloc, directives, operands),
         Directive::Library => follow_library(alloc, directives, operands),
-        Directive::Folder => put_list(&mut directives.job.folders, operands),
+        Directive::Folder => follow_libpath(alloc, directives, operands),
         Directive::Name => follow_name(directives, operands),
         Directive::Format => follow_form(directives, format_of(operands)),
         Directive::System => follow_form(directives, system_of(operands)),
@@ -417,7 +448,7 @@ fn follow_lines<'a>(
 /// end. White space, commas, equals signs and braces separate words; a word that begins with `"` or `'` goes on to the
 /// next such quote of its line. Keywords are read without regard to case, and many may be shortened.
 ///
-/// - `file A[,B..]` (`f`), `library A[,B..]` (`l`), `libpath A[,B..]` (`libp`): modules, libraries and folders, in
+/// - `file A[,B..]` (`f`), `library A[,B..]` (`l`), `libpath A[;B..][,C..]` (`libp`): modules, libraries and folders, in
 ///   order. A list may stand between braces, with white space or commas between its names.
 /// - `path A[;B..]` (`p`): folders in which modules are looked up that can't be opened where their names say, in order;
 ///   several add up.
@@ -428,7 +459,7 @@ fn follow_lines<'a>(
 /// - `option X[=VALUE][,..]` (`op`): `quiet` (`q`), `map[=FILE]` (`m`), `stack=BYTES` (`st`), `dosseg` (`dos`),
 ///   `caseexact` (`c`), `ignorecase`, `nodefaultlibs` (`nod`), `start=NAME` (`star`). Of `symfile` and what changes no
 ///   DOS program (`verbose`, `statics`, `artificial`, `showdead`, `cache`, `nocache`, `farcalls`, `nofarcalls`,
-///   `maxerrors`) a warning is told; any other is a fault.
+///   `maxerrors`, `mangled`) a warning is told; any other is a fault.
 /// - `order clname CLASS [segment SEGMENT..] ..` (`ord`): the order of classes, and of segments in them.
 /// - `reference A[,B..]` (`ref`), a list as of `file`: names that are wanted. `alias A=B[,C=D..]` (`a`): the name A
 ///   means B. These and that of `start` have 255 bytes at most.

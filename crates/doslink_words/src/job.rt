@@ -1,5 +1,6 @@
 //! The job of `doslink`.
 ghost use Rattle.std.specs.Prelude.{◌≡◌};
+ghost use Rattle.doslink_words.specs.Said as said;
 ghost use Rattle.doslink_words.specs.Said.{nothing, said_of};
 
 use std::alloc::Global;
@@ -90,6 +91,14 @@ pub enum Form {
     Raw { paragraph: u16, from: u32 },
     /// The file of a device driver, .SYS: the bytes of a program without relocated words.
     Driver,
+}
+
+/// Whether a program's file of this form has a header, which says where the program starts and where its stack is. One
+/// without starts at its first byte.
+pub fn has_header(form: Option<Form>) -> bool
+    ensures { result ≡ said.has_header form }
+{
+    matches!(form, None | Some(Form::Exe | Form::LimitedExe { .. }))
 }
 
 /// Where a map is written.

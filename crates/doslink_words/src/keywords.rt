@@ -52,7 +52,7 @@ pub(crate) enum Switch {
     Plain(Plain),
     /// An option that has no effect, and what is told of it. `symfile`: a file of symbols; and what changes nothing of
     /// a DOS program: `verbose`, `statics`, `artificial`, `showdead`, `cache`, `nocache`, `farcalls`, `nofarcalls`,
-    /// `maxerrors`.
+    /// `maxerrors`, `mangled`.
     Idle(WarningKind),
 }
 
@@ -169,6 +169,7 @@ fn is_harmless(word: &str) -> bool
         || is(word, "farcalls")
         || is(word, "nofarcalls")
         || is_short(word, "maxerrors", 4)
+        || is_short(word, "mangled", 3)
 }
 
 // Whether an option of this name asks that names agree with regard to case.

@@ -19,7 +19,7 @@ pub use directives::parse_directives;
 pub use faults::{DirectiveFault, DirectiveFaultKind, SplitFault};
 pub use job::{
     Alias, Directives, Form, Input, Job, MapFile, MapForm, Order, OrderItem, Stack, Warning,
-    WarningKind,
+    WarningKind, has_header,
 };
 pub use responses::{response_word, text_asked};
 pub use tokens::split_words;

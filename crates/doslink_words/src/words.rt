@@ -14,7 +14,7 @@ ghost use Rattle.doslink_words.specs.Words as spec;
 ghost use Rattle.doslink_words.specs.Words.{AreTaken, IsJobFor, IsJobOf};
 ghost use Rattle.doslink_words.specs.declared.words.WordsFault.TheVariants.{Memory};
 
-use crate::job::{Form, Input, Job, MapFile, MapForm, Order, OrderItem, Stack};
+use crate::job::{Form, Input, Job, MapFile, MapForm, Order, OrderItem, Stack, has_header};
 use crate::keywords::is;
 use crate::named::{in_order, kinds_named};
 use crate::sizes::{paragraph, stack_bytes};
@@ -255,12 +255,9 @@ fn order_asked<'a>(alloc: Global, value: Option<&'a str>) -> Result<Order<'a>, A
 fn nulls_asked(value: Option<&str>, form: Option<Form>) -> bool
     ensures { result ≡ spec.nulls_asked (option_map (λ s. s.now) value.entry) form }
 {
-    if form == Some(Form::Com) {
-        return false;
-    }
     match value {
-        Some(word) => !is(word, "dosseg-nonulls"),
-        None => true,
+        Some(word) => has_header(form) && !is(word, "dosseg-nonulls"),
+        None => has_header(form),
     }
 }
 

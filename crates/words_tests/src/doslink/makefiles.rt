@@ -167,6 +167,26 @@ format dos exe option nocaseexact, farcalls, statics, stack=0x800 file {main.o i
 inputs: [File("main.o"), File("io.o")], out: Some("main"), map: None, map_form: Omf, folders: [], object_folders: [], ignore_case: true, order: Meeting, null_bytes: false, stack: Some(Stack { bytes: 2048, cuts: true }), form: Some(Exe)
 
 
+system dos file hello.obj option map, stack=4096 library c:\watcom\lib286\dos\clibs.lib name hello.exe
+=>
+inputs: [File("hello.obj"), Library("c:\\watcom\\lib286\\dos\\clibs.lib")], out: Some("hello.exe"), map: Some(Beside)
+
+
+sys dos libpath \watcom\lib286;\watcom\lib286\dos f main lib clibs n main
+=>
+inputs: [File("main"), Library("clibs")], out: Some("main"), map: None, map_form: Omf, folders: ["\\watcom\\lib286", "\\watcom\\lib286\\dos"]
+
+
+name tsr format dos com option start=begin file tsr.obj
+=>
+inputs: [File("tsr.obj")], out: Some("tsr"), map: None
+
+
+debug watcom all option quiet, mangled name test.exe file {a.obj b.obj c.obj} library {graph.lib clibl.lib}
+=>
+warnings: [Warning { line: 1, kind: Option }] })
+
+
 f obj\main,obj\util p ..\shared\obj libp ..\lib l util op nod,cache n bin\main.exe
 =>
 inputs: [File("obj\\main"), File("obj\\util"), Library("util")], out: Some("bin\\main.exe"), map: None, map_form: Omf, folders: ["..\\lib"], object_folders: ["..\\shared\\obj"], ignore_case: false, order: Meeting, null_bytes: false, stack: None, form: None, default_libraries: false

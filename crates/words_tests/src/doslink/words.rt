@@ -78,7 +78,10 @@ doslink A --form=EXE =>
 null_bytes: true, stack: None, form: Some(Exe)
 
 doslink --form Sys --order dosseg A =>
-order: Dosseg, null_bytes: true, stack: None, form: Some(Driver)
+order: Dosseg, null_bytes: false, stack: None, form: Some(Driver)
+
+doslink --form bin --order dosseg A =>
+order: Dosseg, null_bytes: false, stack: None, form: Some(Raw { paragraph: 0, from: 0 })
 
 doslink --order dosseg --form com A =>
 order: Dosseg, null_bytes: false, stack: None, form: Some(Com)
