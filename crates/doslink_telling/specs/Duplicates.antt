@@ -1,10 +1,9 @@
 -- The names that more than one public of a program has (TIS OMF 1.1, PUBDEF and LPUBDEF), and their lines.
-use Rattle.std.specs.Prelude.{ℕ, ◌-◌, ◌==◌, ◌&&◌, nat_eq, Bool, false}
-use Rattle.std.specs.Prelude.{List, [], ◌++◌, codes, filter, length, map, slice_get}
-use Rattle.std.specs.Prelude.{take}
+use Rattle.std.specs.Prelude.{ℕ, ◌-◌, ◌==◌, ◌&&◌, nat_eq, Bool, false, if◌then◌else◌}
+use Rattle.std.specs.Prelude.{List, [], ◌∷◌, ◌++◌, codes, filter, length, map, slice_get, take}
 use Rattle.std.specs.declared.option.Option.{Option}
 use Rattle.std.specs.Bool.{then_some}
-use Rattle.std.specs.List.{enumerate_from, flat_map}
+use Rattle.std.specs.List.{concat, enumerate_from, flat_map}
 use Rattle.std.specs.Option.{option_eq, option_map_or, unwrap_or}
 use Rattle.std.specs.Str.{bytes_eq}
 use Rattle.omf_module.specs.Module.{Module, PublicSymbol}
@@ -12,6 +11,7 @@ use Rattle.omf_place.specs.Names.{spelled}
 use Rattle.omf_place.specs.declared.names.Names.{Names}
 use Rattle.doslink_telling.specs.Lines.{named}
 use Rattle.doslink_telling.specs.Missing.{rest_text, told_count}
+use Rattle.doslink_telling.specs.Warnings.{grouped}
 
 -- a public: the index of the module that it is local to, where it is; what of its name counts; its name as it is
 -- written; and the index of its module
@@ -54,16 +54,29 @@ is_second all p = option_map_or (λ e. e.0 == p.0) (slice_get (same_ones all p.1
 abbrev pub duplicates : List Public → List (ℕ × Public)
 duplicates all = filter (is_second all) (enumerate_from 0 all)
 
--- the line of such a name, with the words for all modules that have it, each as often as it does
-abbrev pub duplicate_line : (words : List (List ℕ)) → List Public → ℕ × Public → List ℕ
-duplicate_line words all p = named (25, codes "DuplicatePublic") p.1.name
-    (map (λ e. unwrap_or (slice_get words e.1.input) []) (same_ones all p.1))
+-- how many more there are, as a word behind others
+abbrev pub rest_word : ℕ → List ℕ
+rest_word count = concat ([] ∷ grouped count ∷ codes " more" ∷ [])
+
+-- a word where there are some
+abbrev pub if_any : (count : ℕ) → (word : List ℕ) → List (List ℕ)
+if_any count word = if count == 0 then [] else word ∷ []
+
+-- the line of such a name, with the words for all modules that have it, each as often as it does, or for the first of
+-- them and how many more there are
+abbrev pub duplicate_line : (words : List (List ℕ)) → List Public → (tells_all : Bool) → ℕ × Public → List ℕ
+duplicate_line words all tells_all p =
+    let same = same_ones all p.1 in
+    let told = told_count (length same) tells_all in
+    named (25, codes "DuplicatePublic") p.1.name
+    (map (λ e. unwrap_or (slice_get words e.1.input) []) (take told same)
+    ++ if_any (length same - told) (rest_word (length same - told)))
 
 -- the lines of some of them, or of the first and how many more there are
 abbrev pub lines_of : (words : List (List ℕ)) → List Public → (found : List (ℕ × Public)) → (tells_all : Bool) → List ℕ
 lines_of words all found tells_all =
     let told = told_count (length found) tells_all in
-    flat_map (duplicate_line words all) (take told found) ++ rest_text (length found - told)
+    flat_map (duplicate_line words all tells_all) (take told found) ++ rest_text (length found - told)
 
 -- the lines of those of a program
 abbrev pub duplicate_lines : Names → List Module → (words : List (List ℕ)) → (tells_all : Bool) → List ℕ

@@ -19,10 +19,13 @@ begins_module bytes = begins (0x80 ∷ []) bytes || begins (0x82 ∷ []) bytes
 abbrev pub begins_coff : List ℕ → Bool
 begins_coff bytes = begins (0x4C ∷ 0x01 ∷ []) bytes || begins (0x64 ∷ 0x86 ∷ []) bytes
 
--- whether it begins as a Mach-O file does: FEEDFACE or FEEDFACF, the low byte first
+-- whether it begins as a Mach-O file does: FEEDFACE or FEEDFACF, the low byte first or the high one, or CAFEBABE, as
+-- one of several processors
 abbrev pub begins_macho : List ℕ → Bool
 begins_macho bytes =
     begins (0xCE ∷ 0xFA ∷ 0xED ∷ 0xFE ∷ []) bytes || begins (0xCF ∷ 0xFA ∷ 0xED ∷ 0xFE ∷ []) bytes
+    || begins (0xFE ∷ 0xED ∷ 0xFA ∷ 0xCE ∷ []) bytes || begins (0xFE ∷ 0xED ∷ 0xFA ∷ 0xCF ∷ []) bytes
+    || begins (0xCA ∷ 0xFE ∷ 0xBA ∷ 0xBE ∷ []) bytes
 
 -- whether a byte may stand in a text: tab, the ends of lines and pages, the end of a DOS text, and what is printed
 abbrev pub is_text_byte : ℕ → Bool

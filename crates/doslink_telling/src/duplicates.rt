@@ -1,5 +1,6 @@
 //! The names that more than one public of a program has, and their lines.
-ghost use Rattle.std.specs.Prelude.{◌≡◌, ◌++◌, ◌∷◌, [], List, IfOk, OnOk, cond, map, slice_get};
+ghost use Rattle.std.specs.Prelude.{◌≡◌, ◌≤◌, ◌-◌, ◌++◌, ◌∷◌, [], List, IfOk, OnOk, cond, length, map, slice_get};
+ghost use Rattle.std.specs.Prelude.{take};
 ghost use Rattle.std.specs.Bool.{then_some};
 ghost use Rattle.std.specs.List.{flat_map};
 ghost use Rattle.std.specs.Option.{unwrap_or};
@@ -13,6 +14,7 @@ ghost use Rattle.doslink_telling.specs.inside.Duplicates.{public_said, same_key}
 use crate::lines::push_named;
 use crate::mapping::slice_at;
 use crate::missing::{push_rest, told_count};
+use crate::warnings::push_counted;
 use omf_module::{Module, PublicSymbol};
 use omf_place::Names;
 use std::alloc::{AllocError, Allocator};
@@ -229,6 +231,36 @@ fn words_of<'w, A: Allocator + Copy>(
     Ok(all)
 }
 
+/// How many more there are, as a word behind others.
+fn rest_word<A: Allocator + Copy>(alloc: A, count: usize) -> Result<Vec<u8, A>, AllocError>
+    ensures { IfOk result (λ word. word.items ≡ spec.rest_word count) }
+{
+    let mut word = Vec::new(alloc);
+    push_counted(&mut word, "", count as u64, " more")?;
+    Ok(word)
+}
+
+/// The words for the modules of the first of some publics, and behind them one for the rest, where there are more.
+fn told_words<'w, A: Allocator + Copy>(
+    alloc: A,
+    same: &[Occurrence],
+    told: usize,
+    words: &[&'w [u8]],
+    rest: &'w [u8],
+) -> Result<Vec<&'w [u8], A>, AllocError>
+    requires { told ≤ length same.now }
+    ensures { IfOk result (λ v. bytes_of v.items
+        ≡ map (λ o. unwrap_or (slice_get (bytes_of words.now) o.input) []) (take told same.now)
+        ++ spec.if_any (length same.now - told) rest.now) }
+{
+    let mut all = words_of(alloc, &same[..told], words)?;
+    if told == same.len() {
+        return Ok(all);
+    }
+    all.push(rest)?;
+    Ok(all)
+}
+
 /// Appends the line of a name that more than one public has.
 fn push_duplicate<'p, 'm, A: Allocator + Copy>(
     alloc: A,
@@ -236,12 +268,15 @@ fn push_duplicate<'p, 'm, A: Allocator + Copy>(
     places: &Places<'p, A>,
     duplicate: &Duplicate<'p, 'm, A>,
     words: &[&[u8]],
+    tells_all: bool,
 ) -> Result<(), AllocError>
     ensures { OnOk result ((all : List spec.Public) → IsIndex all places.now → lines.new.items
-        ≡ lines.old.items ++ spec.duplicate_line (bytes_of words.now) all (duplicate_said duplicate.now)) }
+        ≡ lines.old.items ++ spec.duplicate_line (bytes_of words.now) all tells_all (duplicate_said duplicate.now)) }
 {
     let same = same_places(places, duplicate.public);
-    let found = words_of(alloc, same, words)?;
+    let told = told_count(same.len(), tells_all);
+    let rest = rest_word(alloc, same.len() - told)?;
+    let found = told_words(alloc, same, told, words, &rest)?;
     let name = duplicate.public.name;
     push_named(alloc, lines, (25, "DuplicatePublic"), name, &found)
 }
@@ -253,13 +288,14 @@ fn push_told<'p, 'm, A: Allocator + Copy>(
     places: &Places<'p, A>,
     told: &[Duplicate<'p, 'm, A>],
     words: &[&[u8]],
+    tells_all: bool,
 ) -> Result<(), AllocError>
     ensures { OnOk result ((all : List spec.Public) → IsIndex all places.now → lines.new.items
         ≡ lines.old.items
-        ++ flat_map (spec.duplicate_line (bytes_of words.now) all) (map duplicate_said told.now)) }
+        ++ flat_map (spec.duplicate_line (bytes_of words.now) all tells_all) (map duplicate_said told.now)) }
 {
     for each in told {
-        push_duplicate(alloc, lines, places, each, words)?;
+        push_duplicate(alloc, lines, places, each, words, tells_all)?;
     }
     Ok(())
 }
@@ -279,13 +315,14 @@ fn push_found<'p, 'm, A: Allocator + Copy>(
         ++ spec.lines_of (bytes_of words.now) all (map duplicate_said found.now) tells_all) }
 {
     let told = told_count(found.len(), tells_all);
-    push_told(alloc, lines, places, &found[..told], words)?;
+    push_told(alloc, lines, places, &found[..told], words, tells_all)?;
     push_rest(lines, found.len() - told)
 }
 
 /// Appends a line for each name that more than one public of modules has, or for the first 20 and how many more there
-/// are (fault 25): the name, and the words for all modules that have it, each as often as it does. Names of publics
-/// that are local to a module are its own. The words are those of the modules.
+/// are (fault 25): the name, and the words for all modules that have it, each as often as it does, or for the first 20
+/// and how many more there are. Names of publics that are local to a module are its own. The words are those of the
+/// modules.
 pub fn push_duplicates<A: Allocator + Copy>(
     alloc: A,
     lines: &mut Vec<u8, A>,

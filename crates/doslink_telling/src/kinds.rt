@@ -55,7 +55,11 @@ fn begins_coff(bytes: &[u8]) -> bool
 fn begins_macho(bytes: &[u8]) -> bool
     ensures { result ≡ spec.begins_macho bytes.now }
 {
-    begins(bytes, b"\xCE\xFA\xED\xFE") || begins(bytes, b"\xCF\xFA\xED\xFE")
+    begins(bytes, b"\xCE\xFA\xED\xFE")
+        || begins(bytes, b"\xCF\xFA\xED\xFE")
+        || begins(bytes, b"\xFE\xED\xFA\xCE")
+        || begins(bytes, b"\xFE\xED\xFA\xCF")
+        || begins(bytes, b"\xCA\xFE\xBA\xBE")
 }
 
 /// Whether a byte may stand in a text.

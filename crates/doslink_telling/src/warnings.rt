@@ -25,7 +25,7 @@ fn push_grouped<A: Allocator + Copy>(lines: &mut Vec<u8, A>, count: u64) -> Resu
 }
 
 /// Appends a number with commas between two texts.
-fn push_counted<'p, A: Allocator + Copy>(
+pub(crate) fn push_counted<'p, A: Allocator + Copy>(
     lines: &mut Vec<u8, A>,
     front: &'p str,
     count: u64,

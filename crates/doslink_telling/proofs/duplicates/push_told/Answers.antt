@@ -8,7 +8,7 @@ use Rattle.doslink_telling.proofs.duplicates.push_told.Goals as goal
 
 pub loop-each-preserved : goal.loop-each-preserved
 loop-each-preserved g c = λ all is.
-    let line = duplicate_line (bytes_of c.args.words.now) all in
+    let line = duplicate_line (bytes_of c.args.words.now) all c.args.tells_all in
     all-more (λ d. line (duplicate_said d)) c.args.told.now c.loop-each.each-index c.each-item.result
     c.loop-each.lines.items c.push_duplicate.new.lines.items _ c.loop-each-test.true
     (c.in_ok-push_duplicate.ensures all is
@@ -17,7 +17,7 @@ loop-each-preserved g c = λ all is.
 
 pub returns : goal.returns
 returns g c = λ all is.
-    let line = duplicate_line (bytes_of c.args.words.now) all in
+    let line = duplicate_line (bytes_of c.args.words.now) all c.args.tells_all in
     all-done (λ d. line (duplicate_said d)) c.args.told.now c.loop-each.each-index c.loop-each.lines.items _
     (omega arith)
     (c.loop-each.invariant all is)

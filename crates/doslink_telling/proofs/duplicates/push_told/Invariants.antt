@@ -8,5 +8,5 @@ use Rattle.doslink_telling.proofs.duplicates.push_told.Given as goal
 abbrev pub invariant-loop-each : goal.invariant-loop-each
 invariant-loop-each g l = (all : List Public) → IsIndex all l.fn.places
     → l.lines.items
-    ++ flat_map (λ d. duplicate_line (bytes_of l.fn.words) all (duplicate_said d)) (drop l.each-index l.fn.told)
-    ≡ l.initial.lines.items ++ flat_map (λ d. duplicate_line (bytes_of l.fn.words) all (duplicate_said d)) l.fn.told
+    ++ flat_map (λ d. duplicate_line (bytes_of l.fn.words) all l.fn.tells_all (duplicate_said d)) (drop l.each-index l.fn.told)
+    ≡ l.initial.lines.items ++ flat_map (λ d. duplicate_line (bytes_of l.fn.words) all l.fn.tells_all (duplicate_said d)) l.fn.told
