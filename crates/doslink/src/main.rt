@@ -41,11 +41,11 @@ fn run(rt: &HostRuntime) -> u8 {
     }
 }
 
-// The files of the machine, by paths of DOS where a line of LINK or TLINK names them.
+// The files of the machine, by paths of DOS where a line of LINK or TLINK names them, or directives do.
 fn files_of<'a>(rt: &'a HostRuntime, seen: &'a Seen, language: Language) -> Names<'a> {
     match language {
-        Language::Link | Language::Tlink => Names::of_dos(rt, seen),
-        Language::Words | Language::Directives => Names::of_machine(rt, seen),
+        Language::Link | Language::Tlink | Language::Directives => Names::of_dos(rt, seen),
+        Language::Words => Names::of_machine(rt, seen),
     }
 }
 
@@ -57,6 +57,17 @@ fn link_text(rt: &HostRuntime, language: Language) -> Result<String, VarError> {
     match env::var(rt, "LINK") {
         Err(VarError::NotPresent) => Ok(String::new(rt.alloc())),
         told => told,
+    }
+}
+
+// The text of the environment's LIB, which TLINK doesn't read: none where it is missing or no text.
+fn library_list(rt: &HostRuntime, language: Language) -> Result<String, VarError> {
+    if language == Language::Tlink {
+        return Ok(String::new(rt.alloc()));
+    }
+    match env::var(rt, "LIB") {
+        Err(VarError::OutOfMemory) => Err(VarError::OutOfMemory),
+        told => Ok(told.unwrap_or(String::new(rt.alloc()))),
     }
 }
 
@@ -80,11 +91,9 @@ fn run_arguments<O: Write + Drop, E: Sink>(
         Err(VarError::OutOfMemory) => return out_of_memory(errors),
         Err(_) => return wrong_words("doslink: LINK: it is no UTF-8 text\n", errors),
     };
-    // where LIB is missing or no text it names no folder
-    let list = match env::var(rt, "LIB") {
+    let list = match library_list(rt, asked) {
         Ok(list) => list,
-        Err(VarError::OutOfMemory) => return out_of_memory(errors),
-        Err(_) => String::new(rt.alloc()),
+        Err(_) => return out_of_memory(errors),
     };
     match library_folders(rt.alloc(), list.as_str()) {
         Ok(folders) => {

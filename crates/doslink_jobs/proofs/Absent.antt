@@ -21,7 +21,7 @@ use Rattle.doslink_words.specs.declared.job.Job.{Job}
 use Rattle.doslink_words.specs.Tokens.{texts}
 use Rattle.doslink_jobs.specs.declared.gathering.DefaultLibrary.{DefaultLibrary}
 use Rattle.doslink_jobs.specs.declared.gathering.Gathered.{Gathered}
-use Rattle.doslink_jobs.specs.Jobs.{AreGiven, IsAskedBy, names_of}
+use Rattle.doslink_jobs.specs.Jobs.{AreGiven, IsAskedBy, library_folders, names_of}
 use Rattle.doslink_jobs.specs.inside.Warnings.{told_lines}
 use Rattle.doslink_jobs.specs.inside.Gathering.{AreAsked, Holds}
 use Rattle.doslink_jobs.specs.inside.Absent.{AreAbsentBehind, AreAbsentTold, absent_warning, absent_warnings}
@@ -159,7 +159,7 @@ none-told job lines = none-warned job.quiet job.verbose lines
 pub absent-unasked : {A : Type 0} (told : Text → Option (List ℕ)) (folders : List Text) (job : Job)
     (gathered : Gathered A) (given : List (List ℕ)) (lines : List ℕ)
     → Holds (names_of job.ignore_case) (given ∷ []) gathered
-    → AreGiven told job given
+    → AreGiven told folders job given
     → AreAbsentTold told folders job gathered lines lines
 absent-unasked told folders job gathered given lines holds sought = record {
   given = given;
@@ -174,8 +174,8 @@ absent-unasked told folders job gathered given lines holds sought = record {
 -- some are for one that does
 pub absent-asked : {A : Type 0} (told : Text → Option (List ℕ)) (folders all : List Text) (job : Job)
     (gathered : Gathered A) (given : List (List ℕ)) (absent : List Library) (old new : List ℕ)
-    → all ≡ texts job.folders.items ++ folders → (job.default_libraries ≡ false → ⊥)
-    → AreGiven told job given
+    → all ≡ library_folders folders job → (job.default_libraries ≡ false → ⊥)
+    → AreGiven told folders job given
     → AreAbsentBehind told all (texts job.left_out.items) (names_of job.ignore_case) (given ∷ []) gathered [] absent
     → new ≡ old ++ absent_warnings job false absent → AreAbsentTold told folders job gathered old new
 absent-asked told folders all job gathered given absent old new folded on sought behind warned = record {
@@ -192,8 +192,8 @@ absent-asked told folders all job gathered given absent old new folded on sought
 -- where it goes on
 pub absent-done : {A X E : Type 0} (told : Text → Option (List ℕ)) (folders all : List Text) (job : Job)
     (gathered : Gathered A) (given : List (List ℕ)) (absent : List Library) (r : Result X E) (failed : Bool)
-    (old mid new rest : List ℕ) → all ≡ texts job.folders.items ++ folders → (job.default_libraries ≡ false → ⊥)
-    → AreGiven told job given → failed ≡ is_err r
+    (old mid new rest : List ℕ) → all ≡ library_folders folders job → (job.default_libraries ≡ false → ⊥)
+    → AreGiven told folders job given → failed ≡ is_err r
     → OnOk r (AreAbsentBehind told all (texts job.left_out.items) (names_of job.ignore_case) (given ∷ []) gathered []
     absent) → OnOk r (rest ≡ []) → mid ≡ old ++ absent_warnings job failed absent → new ≡ mid ++ rest
     → OnOk r (AreAbsentTold told folders job gathered old new)

@@ -141,9 +141,9 @@ EndsBy-done A told looks Writes folders Run job tells status step =
     let done = IsDone A told Writes folders in
     let refused = IsRefusedJob A told folders in
     let never = λ (words : List Text). ⊥ in
-    EndsWith-weaker (IsNamedWell job × AreApart looks job.verbose (out_path job) (map_path job)
+    EndsWith-weaker (IsNamedWell folders job × AreApart looks job.verbose (out_path job) (map_path job)
     × done job) (Run done AskForNone)
-    (IsNamedWell job × refused job) (Run refused never) (IsWrongJob told looks job) (Unit {0}) tells status
+    (IsNamedWell folders job × refused job) (Run refused never) (IsWrongJob told looks folders job) (Unit {0}) tells status
     (λ ends. step done AskForNone ends.2) (λ ends. step refused never ends.1) (λ wrong. tt)
 
 -- a run that does no job

@@ -19,7 +19,7 @@ use Rattle.doslink_jobs.specs.declared.gathering.DefaultLibrary.{DefaultLibrary}
 use Rattle.doslink_words.specs.declared.job.Job.{Job}
 use Rattle.doslink_words.specs.Tokens.{texts}
 use Rattle.doslink_jobs.specs.Jobs.{AreDefaults, AreFilesOf, AreRounds, IsAskedBy, IsNamedBy, is_left_out, names_of}
-use Rattle.doslink_jobs.specs.Jobs.{AreGiven}
+use Rattle.doslink_jobs.specs.Jobs.{AreGiven, library_folders}
 use Rattle.doslink_jobs.specs.Refusals.{HasFaultyLibrary}
 use Rattle.doslink_jobs.specs.inside.Gathering.{AreAsked, AreNamed}
 use Rattle.doslink_jobs.proofs.Lists.{map-map}
@@ -108,7 +108,7 @@ handed-all handed = map-map handed_taken (λ t. t.held) handed
 
 -- the files of a job that asks for no default libraries
 pub files-none : (told : Text → Option (List ℕ)) (folders : List Text) (job : Job) (given : List (List ℕ))
-    → AreGiven told job given
+    → AreGiven told folders job given
     → AreFilesOf told folders job (given ∷ [])
 files-none told folders job given sought = record {
   given = given;
@@ -121,15 +121,15 @@ files-none told folders job given sought = record {
 
 -- those of one that does
 pub files-found : (told : Text → Option (List ℕ)) (folders all : List Text) (job : Job) (names : Names)
-    (given : List (List ℕ)) (more : List (List (List ℕ))) → all ≡ texts job.folders.items ++ folders
+    (given : List (List ℕ)) (more : List (List (List ℕ))) → all ≡ library_folders folders job
     → names ≡ names_of job.ignore_case → (job.default_libraries ≡ false → ⊥)
-    → AreGiven told job given
+    → AreGiven told folders job given
     → AreRounds told all (texts job.left_out.items) names (given ∷ []) more → AreFilesOf told folders job (given ∷ more)
 files-found told folders all job names given more folded same on sought are = record {
   given = given;
   defaults = more;
   are_given = sought;
-  are_defaults = subst (λ n. AreRounds told (texts job.folders.items ++ folders) (texts job.left_out.items) n
+  are_defaults = subst (λ n. AreRounds told (library_folders folders job) (texts job.left_out.items) n
       (given ∷ []) more) same
       (subst (λ fs. AreRounds told fs (texts job.left_out.items) names (given ∷ []) more) folded are);
   none = λ off. absurd (on off);

@@ -1,20 +1,22 @@
 -- The text of directives, word by word.
 use Rattle.std.proofs.Common.{◌≡◌, ◌≢◌, ℕ, Bool, true, false, cond, eqb, Some, None, MatchOption, option_map, ◌+◌, ◌<◌}
 use Rattle.std.proofs.Common.{List, [], ◌∷◌, ◌++◌, length, take, get_or, refl, sym, subst, ap, ap₂, ◌∙◌}
-use Rattle.std.proofs.Common.{append-nil, count_by, drop, ◌==◌, ◌-◌, ◌≤◌, ◌⊎◌, inl, inr, arith, nat_le, if◌then◌else◌}
+use Rattle.std.proofs.Common.{append-nil, count_by, drop, ltb, not, ◌==◌, ◌-◌, ◌≤◌, ◌⊎◌, inl, inr, arith, nat_le, if◌then◌else◌}
 use Rattle.std.proofs.lemmas.List.{map-append, take_more}
 use Rattle.std.proofs.Math.ListN.{drop_of_length-le}
 use Rattle.doslink_stock.proofs.Walks.{drop-one}
-use Rattle.std.proofs.lemmas.List.Sums.{sum_by_push}
+use Rattle.std.proofs.lemmas.List.Sums.{prefix_len-le-length, sum_by_push}
+use Rattle.std.specs.Prelude.{unwrap_or}
 use Rattle.std.proofs.lemmas.Bool.{eqb-true}
 use Rattle.std.proofs.lemmas.Bool.Decides.{nat_tests}
 use Rattle.std.proofs.lemmas.Grind.{flat_map-append}
-use Rattle.std.specs.List.{flat_map}
+use Rattle.std.specs.List.{flat_map, position_or_len}
 use Rattle.std.specs.declared.option.Option.{Option}
 use Rattle.std.specs.Borrow.{Bor}
 use Rattle.clap.specs.Words.{Text}
 use Rattle.doslink_words.specs.Tokens.{texts}
-use Rattle.doslink_files.specs.Files.{Each, IsTold}
+use Rattle.doslink_files.specs.Files.{Each}
+use Rattle.doslink_jobs.specs.Responses.{IsTextIn, is_end}
 use Rattle.doslink_jobs.specs.Runs.{IsPart, IsTextOf, response_path}
 use Rattle.doslink_jobs.specs.inside.Idle.{GiveLines, line_count, place_in}
 
@@ -70,10 +72,21 @@ pub text-of : (told : Text → Option (List ℕ)) (words : List Text) (text : Te
     → GiveLines told words text counts → IsTextOf told words text
 text-of told words text counts (parts, each, is, counted) = (parts, each, is)
 
+-- where the text of a file ends, by the place of the first Ctrl-Z
+place-or-end : (p len : ℕ) → p ≤ len → unwrap_or (cond (ltb p len) (Some p) None) len ≡ p
+place-or-end p len few = grind (arith, nat_tests)
+
+pub end-is : (bytes : List ℕ) (found : Option ℕ) (end : ℕ)
+    → found ≡ cond (ltb (position_or_len is_end bytes) (length bytes)) (Some (position_or_len is_end bytes)) None
+    → end ≡ unwrap_or found (length bytes) → end ≡ position_or_len is_end bytes
+end-is bytes found end is ends =
+    ends ∙ (ap (λ (o : Option ℕ). unwrap_or o (length bytes)) is
+    ∙ place-or-end (position_or_len is_end bytes) (length bytes) (prefix_len-le-length (λ b. not (is_end b)) bytes))
+
 -- the text of a response file that is alone
-pub response-text : (told : Option (List ℕ)) (old new part : List ℕ) → old ≡ [] → IsTold told part → new ≡ old ++ part
-    → IsTold told new
-response-text told old new part none one is = subst (IsTold told) (sym (is ∙ ap (λ l. l ++ part) none)) one
+pub response-text : (told : Option (List ℕ)) (old new part : List ℕ) → old ≡ [] → IsTextIn told part → new ≡ old ++ part
+    → IsTextIn told new
+response-text told old new part none one is = subst (IsTextIn told) (sym (is ∙ ap (λ l. l ++ part) none)) one
 
 -- a line behind those that the next word gives
 not-within : (line count : ℕ) → count < line → nat_le line count ≡ false

@@ -3,16 +3,16 @@
 -- the world tells them.
 use Rattle.std.specs.Prelude.{◌≡◌, ◌⊎◌, ◌||◌, ℕ, Bool, List, [], codes, IfSome, None, if◌then◌else◌}
 use Rattle.std.specs.declared.option.Option.{Option}
-use Rattle.std.specs.List.{before_first, list_any}
+use Rattle.std.specs.List.{list_any}
 use Rattle.std.specs.Str.{bytes_eq}
 use Rattle.clap.specs.Words.{Text}
 use Rattle.omf_files.specs.declared.world.Looked.{Looked}
-use Rattle.doslink_files.specs.Files.{IsTold}
 use Rattle.doslink_files.specs.Paths.{last_part}
 use Rattle.makefile_words.specs.Tokens.{Piece, text_of, tokens}
 use Rattle.makefile_words.specs.declared.tokens.Language.{Language}
 use Rattle.makefile_words.specs.declared.tokens.Language.TheVariants.{Link, Tlink}
-use Rattle.doslink_jobs.specs.Lines.{IsSpoken, is_end}
+use Rattle.doslink_jobs.specs.Lines.{IsSpoken}
+use Rattle.doslink_jobs.specs.Responses.{IsTextIn}
 use Rattle.doslink_jobs.specs.Runs.{is_called}
 
 -- ---- the environment's LINK
@@ -37,12 +37,12 @@ link_text text = if calls_linker text then [] else text
 abbrev pub IsNothingAt : (looks : Option (Text → Option Looked)) → (path : Text) → Type 0
 IsNothingAt looks path = IfSome looks (λ look. look path ≡ None)
 
--- this is what TLINK.CFG says: nothing where it isn't there, and else its text up to a Ctrl-Z
+-- this is what TLINK.CFG says: nothing where it isn't there, and else its text
 abbrev pub IsConfigured : (told : Text → Option (List ℕ)) → (looks : Option (Text → Option Looked)) → (said : Text)
     → Type 0
 IsConfigured told looks said =
     (IsNothingAt looks (codes "TLINK.CFG") × (said ≡ []))
-    ⊎ ((text : Text) × IsTold (told (codes "TLINK.CFG")) text × (said ≡ before_first is_end text))
+    ⊎ IsTextIn (told (codes "TLINK.CFG")) said
 
 -- ---- the front
 

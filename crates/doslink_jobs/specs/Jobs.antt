@@ -123,12 +123,16 @@ abbrev pub sought_of : Input → Sought
 sought_of (input.File path) = sought.File path
 sought_of (input.Library name) = sought.Library name
 
+-- the folders in which a job's libraries are looked up: its own, and behind them others, the environment's
+abbrev pub library_folders : (folders : List Text) → Job → List Text
+library_folders folders job = texts job.folders.items ++ folders
+
 -- these are the files that are given to the link: those that a job names, and behind them the one of what it says of
 -- names
-abbrev pub AreGiven : (told : Text → Option (List ℕ)) → Job → (given : List (List ℕ)) → Type 0
-AreGiven told job given =
+abbrev pub AreGiven : (told : Text → Option (List ℕ)) → (folders : List Text) → Job → (given : List (List ℕ)) → Type 0
+AreGiven told folders job given =
     (files : List (List ℕ))
-    × AreSought told (texts job.object_folders.items) (texts job.folders.items) (map sought_of job.inputs.items) files
+    × AreSought told (texts job.object_folders.items) (library_folders folders job) (map sought_of job.inputs.items) files
     × (given ≡ files ++ names_files job)
 
 -- one of these modules names this default library
@@ -171,14 +175,13 @@ AreRounds told folders left_out names before (files ∷ rounds) =
     × AreRounds told folders left_out names (before ++ files ∷ []) rounds
 
 -- These are the files of a job, in the rounds in which they are searched: those that are given, and then default
--- libraries, where it asks for these, but for those that it leaves out. They are looked up in other folders too, behind
--- those of the job.
+-- libraries, where it asks for these, but for those that it leaves out.
 pub record AreFilesOf (told : Text → Option (List ℕ)) (folders : List Text) (job : Job)
     (rounds : List (List (List ℕ))) : Type 0 where
   pub given : List (List ℕ)
   pub defaults : List (List (List ℕ))
-  pub are_given : AreGiven told job given
-  pub are_defaults : AreRounds told (texts job.folders.items ++ folders) (texts job.left_out.items)
+  pub are_given : AreGiven told folders job given
+  pub are_defaults : AreRounds told (library_folders folders job) (texts job.left_out.items)
       (names_of job.ignore_case)
       (given ∷ []) defaults
   pub none : job.default_libraries ≡ false → defaults ≡ []

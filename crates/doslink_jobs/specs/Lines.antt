@@ -4,12 +4,11 @@ use Rattle.std.specs.Prelude.{◌≡◌, ◌≢◌, ◌⊎◌, ◌==◌, ◌&&�
 use Rattle.std.specs.Prelude.{None, Some, MatchOption, if◌then◌else◌}
 use Rattle.std.specs.declared.option.Option.{Option}
 use Rattle.std.specs.Char.{is_ascii_whitespace}
-use Rattle.std.specs.List.{before_first, flat_map, list_any}
+use Rattle.std.specs.List.{flat_map, list_any}
 use Rattle.std.specs.Option.{option_map, option_map_or}
 use Rattle.std.specs.Path.{rsplit_once}
 use Rattle.std.specs.Str.{bytes_eq}
 use Rattle.clap.specs.Words.{Text}
-use Rattle.doslink_files.specs.Files.{IsTold}
 use Rattle.doslink_files.specs.Paths.{has_extension}
 use Rattle.doslink_words.specs.Said.{SaidMap, At, Beside, map_of}
 use Rattle.doslink_words.specs.declared.job.Job.{Job}
@@ -19,7 +18,7 @@ use Rattle.makefile_words.specs.Tokens.{text_of, tokens}
 use Rattle.makefile_words.specs.declared.settings.Settings.{Settings}
 use Rattle.makefile_words.specs.declared.tokens.Language.{Language}
 use Rattle.doslink_jobs.specs.Places.{extension_for, first_file, is_output, path_after, with_extension}
-use Rattle.doslink_jobs.specs.Responses.{response_path}
+use Rattle.doslink_jobs.specs.Responses.{IsTextIn, response_path}
 
 -- ---- its text
 
@@ -61,17 +60,13 @@ spelled Comma = text_of Comma
 spelled Semicolon = text_of Semicolon
 spelled LineEnd = text_of LineEnd
 
--- whether a byte is Ctrl-Z, at which a text ends
-abbrev pub is_end : ℕ → Bool
-is_end byte = byte == 26
-
 -- this is a text without the line feed at its end, where it has one
 abbrev pub IsWithoutLineEnd : (text part : Text) → Type 0
 IsWithoutLineEnd text part = (text ≡ part ++ 10 ∷ []) ⊎ (((front : Text) → text ≢ front ++ 10 ∷ []) × (part ≡ text))
 
--- this is what a response file says: its text up to a Ctrl-Z, without the end of its last line
+-- this is what a response file says: its text, without the end of its last line
 abbrev pub IsSaidIn : (told : Option (List ℕ)) → (part : Text) → Type 0
-IsSaidIn told part = (text : Text) × IsTold told text × IsWithoutLineEnd (before_first is_end text) part
+IsSaidIn told part = (text : Text) × IsTextIn told text × IsWithoutLineEnd text part
 
 -- this stands for a token: what the response file says that it names, and else the token as it is written
 abbrev pub StandsFor : (told : Text → Option (List ℕ)) → Piece → (part : Text) → Type 0

@@ -61,25 +61,29 @@ out_path job =
     option_map_or (λ out. out.now) job.out
     (path_after (option_or (first_file job.inputs.items) (first_library job.inputs.items)) (extension_for job.form))
 
+-- a path that is no file, but standard output
+abbrev pub is_output : Text → Bool
+is_output path = bytes_eq path (codes "-")
+
+-- the path of a program for what stands beside it: on standard output it has none, and `OUT` stands for it
+abbrev pub file_path : (out : Text) → Text
+file_path out = if is_output out then codes "OUT" else out
+
 -- the path of the map, beside a program at this path
 abbrev pub map_beside : (out : Text) → Option MapFile → Option Text
 map_beside out None = None
 map_beside out (Some (At path)) = Some path.now
-map_beside out (Some Beside) = Some (with_extension out (codes ".MAP"))
+map_beside out (Some Beside) = Some (with_extension (file_path out) (codes ".MAP"))
 
 -- the path of the map, where one is asked for
 abbrev pub map_path : Job → Option Text
 map_path job = map_beside (out_path job) job.map
 
--- a path that is no file, but standard output
-abbrev pub is_output : Text → Bool
-is_output path = bytes_eq path (codes "-")
-
 -- the path that is looked at for what stands at a path that is written: standard output is what /dev/stdout leads to
 abbrev pub looked_path : Text → Text
 looked_path path = if is_output path then codes "/dev/stdout" else path
 
--- so is that of a map
+-- a map is written there
 abbrev pub is_map_output : MapFile → Bool
 is_map_output (At path) = is_output path.now
 is_map_output Beside = false

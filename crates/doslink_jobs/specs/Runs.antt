@@ -3,7 +3,7 @@ use Rattle.std.specs.Prelude.{◌≡◌, ◌⊎◌, ◌==◌, ◌||◌, ◌&&◌
 use Rattle.std.specs.Prelude.{if◌then◌else◌}
 use Rattle.std.specs.Prelude.{Ok, None, Some, MatchOption}
 use Rattle.std.specs.declared.option.Option.{Option}
-use Rattle.std.specs.List.{before_first, flat_map, slice_split}
+use Rattle.std.specs.List.{flat_map, slice_split}
 use Rattle.std.specs.Option.{option_map_or, unwrap_or}
 use Rattle.std.specs.Str.{bytes_eq}
 use Rattle.std.specs.Char.{is_ascii_alphabetic}
@@ -15,7 +15,7 @@ use Rattle.doslink_words.specs.Keywords.{is_keyword}
 use Rattle.doslink_words.specs.Tokens.{words}
 use Rattle.doslink_words.specs.Responses.{asks_text, response_words}
 use Rattle.doslink_words.specs.Words.{AreTaken, IsJobFor}
-use Rattle.doslink_files.specs.Files.{Each, IsTold}
+use Rattle.doslink_files.specs.Files.{Each}
 use Rattle.doslink_files.specs.Paths.{has_extension, last_part}
 use Rattle.doslink_jobs.specs.declared.words.Language.{Language}
 use Rattle.doslink_jobs.specs.declared.words.Language.TheVariants as language
@@ -26,9 +26,10 @@ use Rattle.makefile_words.specs.declared.job.MakefileJob.{MakefileJob}
 use Rattle.makefile_words.specs.declared.tokens.Language.{Language as Linker}
 use Rattle.makefile_words.specs.declared.tokens.Language.TheVariants as linkers
 use Rattle.doslink_jobs.specs.Jobs.{EndsWith, IsDone}
-use Rattle.doslink_jobs.specs.Lines.{IsSpoken, IsWhole, are_followed, is_end, line_of}
+use Rattle.doslink_jobs.specs.Lines.{IsSpoken, IsWhole, are_followed, line_of}
 use Rattle.doslink_jobs.specs.Named.{IsNamed}
 use Rattle.doslink_jobs.specs.Refusals.{IsRefusedJob}
+use Rattle.doslink_jobs.specs.Responses.{IsTextIn}
 pub use Rattle.doslink_jobs.specs.Responses.{response_path}
 
 -- the path of a response file that is the only word
@@ -59,7 +60,8 @@ is_called name program with_exe = is_keyword name program || is_keyword name wit
 -- how the words of another linker of this name are read
 abbrev pub language_named : Text → Option Language
 language_named name =
-    if is_called name (codes "wlink") (codes "wlink.exe") then Some language.Directives
+    if is_called name (codes "wlink") (codes "wlink.exe") || is_called name (codes "jwlink") (codes "jwlink.exe")
+    then Some language.Directives
     else (if is_called name (codes "link") (codes "link.exe") then Some language.Link
     else (if is_called name (codes "tlink") (codes "tlink.exe") then Some language.Tlink
     else None))
@@ -91,10 +93,10 @@ line_asked words = words
 abbrev pub IsDirectivePath : (path found : Text) → Type 0
 IsDirectivePath path found = (found ≡ path) ⊎ ((has_extension path ≡ false) × (found ≡ path ++ codes ".lnk"))
 
--- these are the directives of the file of a path: its text up to a Ctrl-Z
+-- these are the directives of the file of a path: its text
 abbrev pub AreDirectives : (told : Text → Option (List ℕ)) → (path part : Text) → Type 0
 AreDirectives told path part =
-    (found text : Text) × IsDirectivePath path found × IsTold (told found) text × (part ≡ before_first is_end text)
+    (found : Text) × IsDirectivePath path found × IsTextIn (told found) part
 
 -- what a word gives of directives: those of the file that it names, and else the word itself
 abbrev pub IsPart : (told : Text → Option (List ℕ)) → (word part : Text) → Type 0
@@ -120,7 +122,7 @@ module _ (told : Text → Option (List ℕ)) (Does : Job → Type 0) (Helps : Li
 
   -- the same of the words of a response file
   abbrev pub RunsResponse : (path : Text) → Type 0
-  RunsResponse path = (text : Text) × IsTold (told path) text × RunsList text
+  RunsResponse path = (text : Text) × IsTextIn (told path) text × RunsList text
 
   -- it holds of a job with the name of its program whole
   abbrev pub RunsNamed : Job → Type 0

@@ -1,7 +1,8 @@
 -- Why the words of a job are wrong, or its names: one of these holds where a run of it ends with status 2. Where the
 -- world tells them, `told` are the bytes of files by their paths, and `looks` is what stands at each path, none where
 -- nothing does.
-use Rattle.std.specs.Prelude.{◌≡◌, ◌≢◌, ◌⊎◌, ◌&&◌, ◌||◌, ℕ, Bool, true, false, List, [], codes, IfSome, Some, is_none}
+use Rattle.std.specs.Prelude.{◌≡◌, ◌≢◌, ◌⊎◌, ◌&&◌, ◌||◌, ℕ, nat_lt, Bool, true, false, List, [], length, codes, IfSome}
+use Rattle.std.specs.Prelude.{Some, is_none}
 use Rattle.std.specs.Option.{option_map_or}
 use Rattle.std.specs.declared.option.Option.{Option}
 use Rattle.clap.specs.Words.{Text}
@@ -20,6 +21,19 @@ use Rattle.doslink_jobs.specs.Refusals.{IsRefusedJob}
 abbrev pub NamesNothing : Job → Type 0
 NamesNothing job = job.inputs.items ≡ []
 
+-- ---- the folders that it searches
+
+-- more folders than are searched: 64 at most of each kind
+abbrev pub are_too_many : {X : Type 0} → List X → Bool
+are_too_many folders = nat_lt 64 (length folders)
+
+-- a job has too many folders of libraries or of objects, or the environment has
+abbrev pub searches_too_many : (folders : List Text) → Job → Bool
+searches_too_many folders job =
+    are_too_many job.folders.items || are_too_many job.object_folders.items || are_too_many folders
+
+-- ---- where it writes
+
 -- the extension of a file of another form than .EXE
 abbrev pub is_other_form : Text → Bool
 is_other_form extension =
@@ -36,10 +50,11 @@ abbrev pub mixes_output : Job → Bool
 mixes_output job =
     job.verbose && (option_map_or (λ out. is_output out.now) job.out false || option_map_or is_map_output job.map false)
 
--- something is named to be linked, no such program, and one thing at most for standard output
-abbrev pub IsNamedWell : Job → Type 0
-IsNamedWell job =
-    (job.inputs.items ≢ []) × (asks_other_form job ≡ false) × (mixes_output job ≡ false)
+-- something is named to be linked, no such program, one thing at most for standard output, and no more folders than are
+-- searched, where these are the environment's
+abbrev pub IsNamedWell : (folders : List Text) → Job → Type 0
+IsNamedWell folders job = (job.inputs.items ≢ []) × (asks_other_form job ≡ false) × (mixes_output job ≡ false)
+    × (searches_too_many folders job ≡ false)
 
 -- ---- where it would be written
 
@@ -85,12 +100,13 @@ module _ (told : Text → Option (List ℕ)) (looks : Option (Text → Option Lo
       FilesOver is_read out map ⊎ ((lists ≡ true) × IsListOver is_read out map)
 
   -- Nothing is named to be linked, the program is given the extension of a form that isn't said, standard output is to
-  -- hold two things, or what would be written would stand in the place of something else. Which files are those that
+  -- hold two things, more folders are named than are searched, or what would be written would stand in the place of something else. Which files are those that
   -- were read isn't said: where one of them would be written over, some regular file stands there.
-  abbrev pub IsWrongJob : Job → Type 0
-  IsWrongJob job =
-      NamesNothing job ⊎ ((asks_other_form job ≡ true) ⊎ ((mixes_output job ≡ true) ⊎ ((is_read : FileId → Bool)
-      × WritesOver is_read job.verbose (out_path job) (map_path job))))
+  abbrev pub IsWrongJob : (folders : List Text) → Job → Type 0
+  IsWrongJob folders job =
+      NamesNothing job ⊎ ((asks_other_form job ≡ true) ⊎ ((mixes_output job ≡ true)
+      ⊎ ((searches_too_many folders job ≡ true) ⊎ ((is_read : FileId → Bool)
+      × WritesOver is_read job.verbose (out_path job) (map_path job)))))
 
 -- a program and its map at these paths would be two files
 abbrev pub FilesApart : (looks : Option (Text → Option Looked)) → (out : Text) → (map : Option Text) → Type 0
@@ -114,6 +130,6 @@ abbrev pub EndsJob : (A : Type 0) → (told : Text → Option (List ℕ)) → (l
     → (Writes : (path bytes : List ℕ) → Type 0) → (folders : List Text) → Job → (tells : List ℕ → Type 0)
     → (status : ℕ) → Type 0
 EndsJob A told looks Writes folders job =
-    EndsWith (IsNamedWell job × AreApart looks job.verbose (out_path job) (map_path job)
+    EndsWith (IsNamedWell folders job × AreApart looks job.verbose (out_path job) (map_path job)
     × IsDone A told Writes folders job)
-    (IsNamedWell job × IsRefusedJob A told folders job) (IsWrongJob told looks job)
+    (IsNamedWell folders job × IsRefusedJob A told folders job) (IsWrongJob told looks folders job)

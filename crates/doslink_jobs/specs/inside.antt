@@ -15,5 +15,6 @@ pub mod Stops
 pub mod Suspects
 pub mod Sums
 pub mod Defined
+pub mod FormNames
 pub mod Warnings
 pub mod Widths

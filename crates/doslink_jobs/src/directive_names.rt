@@ -3,8 +3,8 @@ ghost use Rattle.std.specs.Prelude.{◌≡◌, IfOk, string_bytes};
 ghost use Rattle.std.specs.Option.{option_map};
 ghost use Rattle.doslink_jobs.specs.Named as spec;
 
-use crate::line_names::with_default;
-use crate::places::is_output;
+use crate::line_names::{base_of, whole_path};
+use crate::places::{first_file, is_output, path_after};
 use doslink_words::{Form, Job};
 use std::alloc::{AllocError, Global};
 
@@ -20,24 +20,32 @@ fn small_extension(form: Option<Form>) -> &'static str
     }
 }
 
-// A name that is said of a file of a form.
-fn named_out(alloc: Global, form: Option<Form>, out: &str) -> Result<String, AllocError>
-    ensures { IfOk result (λ made. string_bytes made ≡ spec.named_out form out.now) }
+// The first object's name, with that extension.
+fn small_name(alloc: Global, job: &Job<'_>) -> Result<String, AllocError>
+    ensures { IfOk result (λ name. string_bytes name ≡ spec.small_name job.now) }
+{
+    let name = base_of(first_file(&job.inputs));
+    path_after(alloc, name, small_extension(job.form))
+}
+
+// A name that is said of a job's program.
+fn named_out(alloc: Global, job: &Job<'_>, out: &str) -> Result<String, AllocError>
+    ensures { IfOk result (λ made. string_bytes made ≡ spec.named_out job.now out.now) }
 {
     if is_output(out) {
-        String::from_str(alloc, out)
-    } else {
-        with_default(alloc, out, small_extension(form))
+        return String::from_str(alloc, out);
     }
+    let name = small_name(alloc, job)?;
+    whole_path(alloc, out, name.as_str(), small_extension(job.form))
 }
 
 /// The name of the program that a job says, with the extension that it takes.
 pub(crate) fn name_of(alloc: Global, job: &Job<'_>) -> Result<Option<String>, AllocError>
     ensures { IfOk result (λ name. option_map string_bytes name
-        ≡ option_map (λ out. spec.named_out job.now.form out.now) job.now.out) }
+        ≡ option_map (λ out. spec.named_out job.now out.now) job.now.out) }
 {
     match job.out {
-        Some(out) => Ok(Some(named_out(alloc, job.form, out)?)),
+        Some(out) => Ok(Some(named_out(alloc, job, out)?)),
         None => Ok(None),
     }
 }
@@ -52,14 +60,15 @@ fn name_text<'n>(name: &'n Option<String>) -> Option<&'n str>
     }
 }
 
-/// A job with this name.
+/// A job with this name, of an EXE file where no form is said.
 pub(crate) fn with_name<'n>(job: Job<'n>, name: &'n Option<String>) -> Job<'n>
     ensures { (option_map string_bytes name.now
-        ≡ option_map (λ out. spec.named_out job.entry.form out.now) job.entry.out)
+        ≡ option_map (λ out. spec.named_out job.entry out.now) job.entry.out)
         → spec.IsNamed job.entry result }
 {
     Job {
         out: name_text(name),
+        form: Some(job.form.unwrap_or(Form::Exe)),
         ..job
     }
 }

@@ -1,22 +1,25 @@
 //! The directives that words give, as one text.
 ghost use Rattle.std.specs.Prelude.{◌≡◌, ◌==◌, ◌++◌, ◌∷◌, ℕ, List, [], IfOk, MatchResult, OnOk, count_by, drop};
 ghost use Rattle.std.specs.Prelude.{string_bytes};
-ghost use Rattle.std.specs.List.{flat_map};
+ghost use Rattle.std.specs.List.{before_first, flat_map};
 ghost use Rattle.std.specs.Option.{option_map};
-ghost use Rattle.doslink_files.specs.Files.{IsTold};
 ghost use Rattle.doslink_words.specs.Tokens.{texts};
+ghost use Rattle.doslink_jobs.specs.Responses as responses;
+ghost use Rattle.doslink_jobs.specs.Responses.{IsTextIn};
 ghost use Rattle.doslink_jobs.specs.Runs as spec;
 ghost use Rattle.doslink_jobs.specs.Runs.{IsPart, IsTextOf};
 ghost use Rattle.doslink_jobs.specs.inside.Idle as idle;
 ghost use Rattle.doslink_jobs.specs.inside.Idle.{GiveLines};
 ghost use Rattle.doslink_jobs.specs.inside.Stops.{OnHalt};
+ghost use Rattle.doslink_jobs.specs.inside.Warnings as warned;
 
+use crate::form_names::{DIRECTIVE_WORDS, push_form_warning};
 use crate::limit::{push_rest, told_count};
-use crate::line_text::{check_count, up_to_end};
+use crate::line_text::check_count;
 use crate::stop::{Halt, stop_unread};
 use doslink_files::{has_extension, read_file};
 use doslink_telling::push_path_line;
-use doslink_words::{DirectiveFault, Directives, Warning, WarningKind};
+use doslink_words::{DirectiveFault, Directives, Job, Warning, WarningKind};
 use itoa::Buffer;
 use omf_files::{FileId, PlaceKind, World};
 use std::alloc::{AllocError, Global};
@@ -28,6 +31,14 @@ pub(crate) fn response_path(word: &str) -> Option<&str>
     word.strip_prefix('@')
 }
 
+/// The bytes of a file up to a Ctrl-Z.
+fn up_to_end(bytes: &[u8]) -> &[u8]
+    ensures { result.now ≡ before_first responses.is_end bytes.now }
+{
+    let end = bytes.iter().position(|byte| *byte == 0x1A);
+    &bytes[..end.unwrap_or(bytes.len())]
+}
+
 /// Appends the text of a response file, and which file it is.
 fn push_response<W: World>(
     alloc: Global,
@@ -37,7 +48,7 @@ fn push_response<W: World>(
     read: &mut Vec<FileId>,
     lines: &mut Vec<u8>,
 ) -> Result<(), Halt>
-    ensures { MatchResult result (λ done. (part : List ℕ) × IsTold (W.bytes world.now path.now) part
+    ensures { MatchResult result (λ done. (part : List ℕ) × IsTextIn (W.bytes world.now path.now) part
         × (string_bytes text.new ≡ string_bytes text.old ++ part))
         (λ why. OnHalt why ⊥ (Unit {0})) }
 {
@@ -48,7 +59,7 @@ fn push_response<W: World>(
     if let Some(id) = file.id {
         read.push(id)?;
     }
-    match str::from_utf8(&file.bytes) {
+    match str::from_utf8(up_to_end(&file.bytes)) {
         Ok(part) => Ok(text.push_str(part)?),
         Err(_) => {
             push_path_line(lines, path, "it is no UTF-8 text")?;
@@ -57,7 +68,7 @@ fn push_response<W: World>(
     }
 }
 
-/// The text of a response file. Which file it is is appended.
+/// The text of a response file, up to a Ctrl-Z. Which file it is is appended.
 pub(crate) fn response_text<W: World>(
     alloc: Global,
     world: &W,
@@ -65,7 +76,7 @@ pub(crate) fn response_text<W: World>(
     read: &mut Vec<FileId>,
     lines: &mut Vec<u8>,
 ) -> Result<String, Halt>
-    ensures { MatchResult result (λ text. IsTold (W.bytes world.now path.now) (string_bytes text))
+    ensures { MatchResult result (λ text. IsTextIn (W.bytes world.now path.now) (string_bytes text))
         (λ why. OnHalt why ⊥ (Unit {0})) }
 {
     let mut text = String::new(alloc);
@@ -99,7 +110,7 @@ fn directives_path<W: World>(alloc: Global, world: &W, path: &str) -> Result<Str
     }
 }
 
-/// Appends the directives of a file, up to a Ctrl-Z, and which file it is.
+/// Appends the directives of a file, and which file it is.
 fn push_directives<W: World>(
     alloc: Global,
     world: &W,
@@ -114,7 +125,7 @@ fn push_directives<W: World>(
 {
     let found = directives_path(alloc, world, path)?;
     let file = response_text(alloc, world, found.as_str(), read, lines)?;
-    text.push_str(up_to_end(file.as_str()))?;
+    text.push_str(file.as_str())?;
     Ok(())
 }
 
@@ -299,7 +310,7 @@ fn push_told(told: &[Warning], spoken: &Spoken<'_>, lines: &mut Vec<u8>) -> Resu
 
 /// Warns of each directive that has no effect, unless the job is to be quiet: appends a line for each of the first
 /// warnings, and how many more there are.
-pub(crate) fn push_warnings(
+fn push_warnings(
     directives: &Directives<'_>,
     spoken: &Spoken<'_>,
     lines: &mut Vec<u8>,
@@ -314,4 +325,29 @@ pub(crate) fn push_warnings(
     let told = told_count(warnings.len(), directives.job.verbose);
     push_told(&warnings[..told], spoken, lines)?;
     push_rest(lines, warnings.len() - told)
+}
+
+/// Warns of an EXE file with the name of one of another form, where no form is said.
+fn push_unsaid_form(job: &Job<'_>, lines: &mut Vec<u8>) -> Result<(), AllocError>
+    ensures { OnOk result (lines.new.items ≡ lines.old.items ++ warned.unsaid_warning job.now) }
+{
+    match job.form {
+        Some(_) => Ok(()),
+        None => push_form_warning(job, DIRECTIVE_WORDS, lines),
+    }
+}
+
+/// Warns of directives that have no effect, unless the job is to be quiet, and of an EXE file with the name of one of
+/// another form.
+pub(crate) fn push_all_warnings(
+    directives: &Directives<'_>,
+    spoken: &Spoken<'_>,
+    lines: &mut Vec<u8>,
+) -> Result<(), AllocError>
+    ensures { OnOk result (lines.new.items ≡ lines.old.items ++ (idle.idle_warnings directives.now.job
+        (texts spoken.now.words.now) spoken.now.counts.items directives.now.warnings.items
+        ++ warned.unsaid_warning directives.now.job)) }
+{
+    push_warnings(directives, spoken, lines)?;
+    push_unsaid_form(&directives.job, lines)
 }

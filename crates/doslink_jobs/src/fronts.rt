@@ -7,7 +7,7 @@ ghost use Rattle.doslink_jobs.specs.Lines.{IsSpoken};
 ghost use Rattle.doslink_jobs.specs.inside.Stops.{OnHalt};
 
 use crate::directives::response_text;
-use crate::line_text::{Read, up_to_end, with_files};
+use crate::line_text::{Read, with_files};
 use crate::stop::Halt;
 use crate::words::is_called;
 use doslink_files::last_part;
@@ -72,8 +72,7 @@ fn configuration<W: World>(alloc: Global, world: &W, read: &mut Read) -> Result<
     if is_nothing_at(world, CONFIGURATION) {
         return Ok(String::new(alloc));
     }
-    let file = response_text(alloc, world, CONFIGURATION, &mut read.ids, &mut read.lines)?;
-    Ok(String::from_str(alloc, up_to_end(file.as_str()))?)
+    response_text(alloc, world, CONFIGURATION, &mut read.ids, &mut read.lines)
 }
 
 // What stands in front of a line, where this is the environment's LINK.

@@ -86,22 +86,38 @@ fn all_sought<'a, A: Allocator + Copy>(
     Ok(sought)
 }
 
+/// The folders in which a job's libraries are looked up: its own, and others behind them.
+fn all_folders<'a, A: Allocator + Copy>(
+    alloc: A,
+    job: &Job<'a>,
+    others: &[&'a str],
+) -> Result<Vec<&'a str, A>, AllocError>
+    ensures { IfOk result (λ folders. texts folders.items ≡ done.library_folders (texts others.now) job.now) }
+{
+    let mut folders = Vec::from_slice(alloc, &job.folders)?;
+    folders.extend_from_slice(others)?;
+    Ok(folders)
+}
+
 /// The files that a job names, in their order. Those that can't be read are told.
 fn given_files<W: World, A: Allocator + Copy>(
     alloc: A,
     world: &W,
     job: &Job<'_>,
+    folders: &[&str],
     lines: &mut Vec<u8, A>,
 ) -> Result<Vec<InputFile<A>, A>, Stop>
     ensures files { MatchResult result (λ files. AreSought (W.bytes world.now) (texts job.now.object_folders.items)
-        (texts job.now.folders.items) (map done.sought_of job.now.inputs.items) (contents files.items))
+        (done.library_folders (texts folders.now) job.now) (map done.sought_of job.now.inputs.items)
+        (contents files.items))
         (λ stop. OnInput stop ⊥) }
     ensures kept { OnOk result (lines.new.items ≡ lines.old.items) }
 {
     let sought = all_sought(alloc, &job.inputs)?;
+    let everywhere = all_folders(alloc, job, folders)?;
     let folders = Folders {
         objects: &job.object_folders,
-        libraries: &job.folders,
+        libraries: &everywhere,
     };
     match read_sought(alloc, world, folders, &sought) {
         Ok(files) => Ok(files),
@@ -114,13 +130,15 @@ fn all_given<W: World, A: Allocator + Copy>(
     alloc: A,
     world: &W,
     job: &Job<'_>,
+    folders: &[&str],
     lines: &mut Vec<u8, A>,
 ) -> Result<Vec<InputFile<A>, A>, Stop>
     ensures files { MatchResult result
-        (λ files. AreGiven (W.bytes world.now) job.now (contents files.items)) (λ stop. OnInput stop ⊥) }
+        (λ files. AreGiven (W.bytes world.now) (texts folders.now) job.now (contents files.items))
+        (λ stop. OnInput stop ⊥) }
     ensures kept { OnOk result (lines.new.items ≡ lines.old.items) }
 {
-    let mut files = given_files(alloc, world, job, lines)?;
+    let mut files = given_files(alloc, world, job, folders, lines)?;
     push_names_file(alloc, job, &mut files)?;
     Ok(files)
 }
@@ -474,19 +492,6 @@ fn add_defaults<'f, W: World, A: Allocator + Copy>(
     Ok(())
 }
 
-/// The folders of a job, and others behind them.
-fn all_folders<'a, A: Allocator + Copy>(
-    alloc: A,
-    job: &Job<'a>,
-    others: &[&'a str],
-) -> Result<Vec<&'a str, A>, AllocError>
-    ensures { IfOk result (λ folders. texts folders.items ≡ texts job.now.folders.items ++ texts others.now) }
-{
-    let mut folders = Vec::from_slice(alloc, &job.folders)?;
-    folders.extend_from_slice(others)?;
-    Ok(folders)
-}
-
 /// Warns of each of these default libraries.
 fn push_told<A: Allocator + Copy>(
     alloc: A,
@@ -533,11 +538,11 @@ fn add_asked<'f, W: World, A: Allocator + Copy>(
     lines: &mut Vec<u8, A>,
 ) -> Result<(), Stop>
     ensures files { (given : List (List ℕ)) → Holds (names_of job.now.ignore_case) (given ∷ []) gathered.old
-        → AreGiven (W.bytes world.now) job.now given
+        → AreGiven (W.bytes world.now) (texts folders.now) job.now given
         → MatchResult result (λ done. IsGathered (W.bytes world.now) (texts folders.now) job.now gathered.new)
         (λ stop. OnInput stop (IsFaultyJob (W.bytes world.now) (texts folders.now) job.now)) }
     ensures told { (given : List (List ℕ)) → Holds (names_of job.now.ignore_case) (given ∷ []) gathered.old
-        → AreGiven (W.bytes world.now) job.now given
+        → AreGiven (W.bytes world.now) (texts folders.now) job.now given
         → OnOk result (AreAbsentTold (W.bytes world.now) (texts folders.now) job.now gathered.new
         lines.old.items lines.new.items) }
 {
@@ -585,7 +590,8 @@ pub(crate) fn gather<'f, W: World, A: Allocator + Copy>(
     ensures told { IfOk result (λ gathered. AreAbsentTold (W.bytes world.now) (texts besides.now.folders.now) job.now
         gathered lines.old.items lines.new.items) }
 {
-    let given = all_given(alloc, world, job, lines)?;
+    let folders = besides.folders;
+    let given = all_given(alloc, world, job, folders, lines)?;
     let mut gathered = Gathered {
         paths: Vec::new(alloc),
         bytes: Vec::new(alloc),
@@ -593,7 +599,6 @@ pub(crate) fn gather<'f, W: World, A: Allocator + Copy>(
         stock: Stock::new(alloc, options_of(job).names),
     };
     add_round(alloc, arena, &mut gathered, given, lines)?;
-    let folders = besides.folders;
     add_asked(alloc, world, arena, job, folders, &mut gathered, lines)?;
     Ok(gathered)
 }

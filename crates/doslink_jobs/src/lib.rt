@@ -8,6 +8,7 @@ mod directives;
 mod faults;
 mod faulty;
 mod filled;
+mod form_names;
 mod fronts;
 mod gathering;
 mod inputs;

@@ -27,8 +27,8 @@ fn base_name(path: &str) -> &str
     behind_last(behind_last(behind_last(path, '/'), '\\'), ':')
 }
 
-/// A path with an extension where it has none.
-pub(crate) fn with_default(alloc: Global, path: &str, extension: &str) -> Result<String, AllocError>
+// A path with an extension where it has none.
+fn with_default(alloc: Global, path: &str, extension: &str) -> Result<String, AllocError>
     ensures { IfOk result (λ made. string_bytes made ≡ spec.with_default path.now extension.now) }
 {
     let mut made = String::from_str(alloc, path)?;
@@ -38,8 +38,13 @@ pub(crate) fn with_default(alloc: Global, path: &str, extension: &str) -> Result
     Ok(made)
 }
 
-// A path that is said: with an extension where it has none, and this name in a folder alone.
-fn whole_path(alloc: Global, path: &str, name: &str, extension: &str) -> Result<String, AllocError>
+/// A path that is said: with an extension where it has none, and this name in a folder alone.
+pub(crate) fn whole_path(
+    alloc: Global,
+    path: &str,
+    name: &str,
+    extension: &str,
+) -> Result<String, AllocError>
     ensures { IfOk result (λ made. string_bytes made ≡ spec.whole_path path.now name.now extension.now) }
 {
     if base_name(path) != "" {
@@ -69,8 +74,8 @@ fn out_of(alloc: Global, job: &Job<'_>) -> Result<String, AllocError>
     }
 }
 
-// The name of a file, where there is one, without its folders.
-fn base_of(path: Option<&str>) -> Option<&str>
+/// The name of a file, where there is one, without its folders.
+pub(crate) fn base_of(path: Option<&str>) -> Option<&str>
     ensures { option_map (λ name. name.now) result ≡ option_map spec.base_name (option_map (λ p. p.now) path.entry) }
 {
     Some(base_name(path?))

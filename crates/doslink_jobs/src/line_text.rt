@@ -2,7 +2,7 @@
 ghost use Rattle.std.specs.Prelude.{◌≡◌, ◌++◌, ◌∷◌, [], ℕ, IfOk, List, MatchResult, OnOk, string_bytes};
 ghost use Rattle.std.specs.Option.{option_map};
 ghost use Rattle.std.specs.Char.{is_ascii_whitespace};
-ghost use Rattle.std.specs.List.{before_first, list_any};
+ghost use Rattle.std.specs.List.{list_any};
 ghost use Rattle.doslink_words.specs.Tokens.{texts};
 ghost use Rattle.makefile_words.specs.Tokens as split;
 ghost use Rattle.makefile_words.specs.Tokens.{piece_of, pieces};
@@ -117,16 +117,6 @@ fn push_spelled(text: &mut String, token: Token<'_>) -> Result<(), AllocError>
     }
 }
 
-/// A text up to a Ctrl-Z.
-pub(crate) fn up_to_end(text: &str) -> &str
-    ensures { result.now ≡ before_first spec.is_end text.now }
-{
-    match text.split_once('\x1a') {
-        Some((front, _)) => front,
-        None => text,
-    }
-}
-
 // A text without the line feed at its end.
 fn without_line_end(text: &str) -> &str
     ensures { spec.IsWithoutLineEnd text.now result.now }
@@ -163,7 +153,7 @@ fn push_file<W: World>(
     check_count(path, read.count, &mut read.lines)?;
     read.count = read.count.saturating_add(1);
     let file = response_text(alloc, world, path, &mut read.ids, &mut read.lines)?;
-    text.push_str(without_line_end(up_to_end(file.as_str())))?;
+    text.push_str(without_line_end(file.as_str()))?;
     Ok(())
 }
 

@@ -9,17 +9,17 @@ ghost use Rattle.doslink_jobs.specs.Jobs.{EndsWith, Tells};
 ghost use Rattle.doslink_jobs.specs.Lines as spec;
 ghost use Rattle.doslink_jobs.specs.Runs as runs;
 ghost use Rattle.doslink_jobs.specs.Runs.{EndsBy, RunsLine, RunsLinker, RunsLines, RunsMade, RunsTyped, RunsWhole};
+ghost use Rattle.doslink_jobs.specs.inside.FormNames.{said_words};
 ghost use Rattle.doslink_jobs.specs.inside.Warnings as warned;
 
+use crate::form_names::{FormWords, LINK_WORDS, TLINK_WORDS, push_form_warning};
 use crate::fronts::parts_of;
 use crate::limit::Limit;
 use crate::line_names::{names_of, with_names};
 use crate::line_text::{Read, line_of};
-use crate::places::is_of_other_form;
 use crate::running::{finish, run_lines};
-use crate::warnings::has_header;
 use crate::words::{Besides, Environment, out_of_memory, print_help, wrong_words};
-use doslink_words::{Job, text_asked};
+use doslink_words::text_asked;
 use makefile_words::{
     FaultKind, Idle, IdleAt, Language, LineFault, MakefileJob, Settings, is_short, parse_line,
 };
@@ -162,56 +162,13 @@ fn push_warning(
     Ok(())
 }
 
-// The option that makes a .COM file.
-fn com_option(linker: Language) -> &'static [u8]
-    ensures { result.now ≡ warned.com_option linker }
+// What makes files of other forms.
+fn form_words(linker: Language) -> FormWords
+    ensures { said_words result ≡ warned.linker_words linker }
 {
     match linker {
-        Language::Link => b"/T",
-        Language::Tlink => b"/t",
-    }
-}
-
-// Appends the line of an EXE file by this name.
-fn push_form_line(linker: Language, out: &str, lines: &mut Vec<u8>) -> Result<(), AllocError>
-    ensures { OnOk result (lines.new.items ≡ lines.old.items ++ warned.form_line linker out.now) }
-{
-    lines.extend_from_slice(b"doslink: warning: ")?;
-    lines.extend_from_slice(out.as_bytes())?;
-    lines.extend_from_slice(b": an EXE file is written: ")?;
-    lines.extend_from_slice(com_option(linker))?;
-    lines.extend_from_slice(b" makes a .COM file\n")
-}
-
-// Whether the file that a job writes at a path has a header, and the name of one without.
-fn is_misnamed(job: &Job<'_>, out: &str) -> bool
-    ensures { result ≡ warned.is_misnamed job.now out.now }
-{
-    has_header(job) && is_of_other_form(out)
-}
-
-// Appends a line where this is so.
-fn push_misnamed(
-    job: &Job<'_>,
-    linker: Language,
-    out: &str,
-    lines: &mut Vec<u8>,
-) -> Result<(), AllocError>
-    ensures { OnOk result (lines.new.items ≡ lines.old.items ++ warned.misnamed_warning job.now linker out.now) }
-{
-    if !is_misnamed(job, out) {
-        return Ok(());
-    }
-    push_form_line(linker, out, lines)
-}
-
-// The same of the path that a job names.
-fn push_form_warning(job: &Job<'_>, linker: Language, lines: &mut Vec<u8>) -> Result<(), AllocError>
-    ensures { OnOk result (lines.new.items ≡ lines.old.items ++ warned.form_warning job.now linker) }
-{
-    match job.out {
-        Some(out) => push_misnamed(job, linker, out, lines),
-        None => Ok(()),
+        Language::Link => LINK_WORDS,
+        Language::Tlink => TLINK_WORDS,
     }
 }
 
@@ -230,7 +187,7 @@ fn push_warnings(
         }
     }
     warnings.append_to(lines)?;
-    push_form_warning(&made.job, parts.linker, lines)?;
+    push_form_warning(&made.job, form_words(parts.linker), lines)?;
     if made.job.map.is_some() && made.settings.detailed {
         lines.extend_from_slice(
             b"doslink: warning: the map tells of no module's parts of segments\n",
@@ -375,7 +332,6 @@ fn run_typed<W: World + Copy, O: Write + Drop, E: Sink>(
             let besides = Besides {
                 folders: environment.folders,
                 read: &read.ids,
-                directives: false,
             };
             let parts = LineParts {
                 linker,

@@ -96,6 +96,13 @@ fn out_path<A: Allocator + Copy>(alloc: A, job: &Job<'_>) -> Result<String<A>, A
     }
 }
 
+/// The path of a program for what stands beside it: on standard output it has none, and `OUT` stands for it.
+fn file_path(out: &str) -> &str
+    ensures { result.now ≡ spec.file_path out.now }
+{
+    if is_output(out) { "OUT" } else { out }
+}
+
 /// The path of the map, where one is asked for.
 fn map_path<A: Allocator + Copy>(
     alloc: A,
@@ -106,7 +113,7 @@ fn map_path<A: Allocator + Copy>(
 {
     match map {
         Some(MapFile::At(path)) => Ok(Some(String::from_str(alloc, path)?)),
-        Some(MapFile::Beside) => Ok(Some(with_extension(alloc, out, ".MAP")?)),
+        Some(MapFile::Beside) => Ok(Some(with_extension(alloc, file_path(out), ".MAP")?)),
         None => Ok(None),
     }
 }
@@ -121,53 +128,19 @@ fn stop_at_path<A: Allocator + Copy>(path: &str, why: &str, lines: &mut Vec<u8, 
     }
 }
 
-/// Words that say a form, for a program whose name has an extension.
-#[derive(Clone, Copy)]
-struct FormWords {
-    com: &'static str,
-    driver: &'static str,
-    raw: &'static str,
-}
-
-/// Those of options.
-const OPTION_WORDS: FormWords = FormWords {
-    com: "without a form an EXE file is written: say --form com, or --form exe",
-    driver: "without a form an EXE file is written: say --form sys, or --form exe",
-    raw: "without a form an EXE file is written: say --form bin, or --form exe",
-};
-
-/// Those of directives.
-const DIRECTIVE_WORDS: FormWords = FormWords {
-    com: "without a form an EXE file is written: say format dos com, or format dos exe",
-    driver: "without a form an EXE file is written: say output raw, or format dos exe",
-    raw: "without a form an EXE file is written: say output raw, or format dos exe",
-};
-
-/// Which of these words are for a program whose name has this extension; none where it isn't that of another form than
-/// .EXE.
-fn word_for(words: &FormWords, extension: &[u8]) -> Option<&'static str>
+/// What is told of a program whose name has this extension, where no form is said; none where it isn't that of another
+/// form than .EXE.
+fn other_form(extension: &[u8]) -> Option<&'static str>
     ensures { is_some result ≡ wrong.is_other_form extension.now }
 {
     if is_named(extension, b"com") {
-        Some(words.com)
+        Some("without a form an EXE file is written: say --form com, or --form exe")
     } else if is_named(extension, b"sys") {
-        Some(words.driver)
+        Some("without a form an EXE file is written: say --form sys, or --form exe")
     } else if is_named(extension, b"bin") || is_named(extension, b"img") {
-        Some(words.raw)
+        Some("without a form an EXE file is written: say --form bin, or --form exe")
     } else {
         None
-    }
-}
-
-/// What is told of a program whose name has this extension, where no form is said; none where it isn't that of another
-/// form than .EXE.
-fn other_form(extension: &[u8], directives: bool) -> Option<&'static str>
-    ensures { is_some result ≡ wrong.is_other_form extension.now }
-{
-    if directives {
-        word_for(&DIRECTIVE_WORDS, extension)
-    } else {
-        word_for(&OPTION_WORDS, extension)
     }
 }
 
@@ -175,14 +148,12 @@ fn other_form(extension: &[u8], directives: bool) -> Option<&'static str>
 pub(crate) fn is_of_other_form(out: &str) -> bool
     ensures { result ≡ wrong.is_other_form (spec.extension_of out.now) }
 {
-    other_form(extension_of(out).as_bytes(), false).is_some()
+    other_form(extension_of(out).as_bytes()).is_some()
 }
 
-/// Stops where the program is given a name with the extension of another form than .EXE, and no form is said. What to
-/// say is told in directives, or in options.
+/// Stops where the program is given a name with the extension of another form than .EXE, and no form is said.
 pub(crate) fn check_form<A: Allocator + Copy>(
     job: &Job<'_>,
-    directives: bool,
     lines: &mut Vec<u8, A>,
 ) -> Result<(), Halt>
     ensures { MatchResult result (λ done. wrong.asks_other_form job.now ≡ false)
@@ -194,7 +165,7 @@ pub(crate) fn check_form<A: Allocator + Copy>(
     let Some(out) = job.out else {
         return Ok(());
     };
-    if let Some(why) = other_form(extension_of(out).as_bytes(), directives) {
+    if let Some(why) = other_form(extension_of(out).as_bytes()) {
         return Err(stop_at_path(out, why, lines));
     }
     Ok(())

@@ -1,5 +1,5 @@
 //! A job of `doslink`, done with files and the two streams.
-ghost use Rattle.std.specs.Prelude.{◌≡◌, ◌⊎◌, ◌-◌, ◌^◌, ◌<◌, ℕ, List, map, MatchResult, string_bytes, true};
+ghost use Rattle.std.specs.Prelude.{◌≡◌, ◌⊎◌, ◌-◌, ◌^◌, ◌<◌, ℕ, List, false, map, MatchResult, string_bytes, true};
 ghost use Rattle.std.specs.Option.{option_map};
 ghost use Rattle.omf_communal.specs.Deciding.{variable_said};
 ghost use Rattle.omf_files.specs.Files.{sink_failures};
@@ -15,7 +15,8 @@ ghost use Rattle.doslink_jobs.specs.Places.{map_path, out_path};
 ghost use Rattle.doslink_jobs.specs.Refusals.{IsRefusedJob, IsRefusedOf};
 ghost use Rattle.doslink_jobs.specs.Written.{IsWritten};
 ghost use Rattle.doslink_jobs.specs.Wrong.{AreApart, EndsJob, IsNamedWell, IsWrongJob, NamesNothing, WritesOver};
-ghost use Rattle.doslink_jobs.specs.Wrong.{asks_other_form, mixes_output};
+ghost use Rattle.doslink_jobs.specs.Wrong as wrong;
+ghost use Rattle.doslink_jobs.specs.Wrong.{asks_other_form, mixes_output, searches_too_many};
 ghost use Rattle.doslink_jobs.specs.inside.Inputs.{IsLinkedWith, IsRefusedWith};
 ghost use Rattle.doslink_jobs.specs.inside.Stops as stops;
 ghost use Rattle.doslink_jobs.specs.inside.Stops.{OnHalt, OnInput, told_text};
@@ -38,6 +39,9 @@ use omf_frame::{Sink, put_all};
 use omf_search::Said;
 use std::alloc::Allocator;
 use std::io::Write;
+
+/// How many folders of libraries are searched at most, how many of objects, and how many of the environment's LIB.
+const MOST_FOLDERS: usize = 64;
 
 /// Links modules with their communal variables, where all say so of names and marks are wanted or not.
 fn link_checked<'a, W: World + Copy, A: Allocator + Copy>(
@@ -140,23 +144,48 @@ fn link_gathered<W: World + Copy, O: Write + Drop, A: Allocator + Copy>(
     Ok(())
 }
 
-/// Stops where a job names nothing that could be linked, or the program by the extension of a form that it doesn't say,
-/// or asks for two things on standard output.
-fn check_job<A: Allocator + Copy>(
+/// Whether folders are more than are searched.
+fn are_too_many(folders: &[&str]) -> bool
+    ensures { result ≡ wrong.are_too_many folders.now }
+{
+    folders.len() > MOST_FOLDERS
+}
+
+/// Stops where a job has more folders of libraries or of objects than are searched, or the environment has.
+fn check_folders<A: Allocator + Copy>(
     job: &Job<'_>,
-    directives: bool,
+    folders: &[&str],
     lines: &mut Vec<u8, A>,
 ) -> Result<(), Halt>
-    ensures { MatchResult result (λ done. IsNamedWell job.now)
+    ensures { MatchResult result (λ done. searches_too_many (texts folders.now) job.now ≡ false)
+        (λ why. OnHalt why ⊥ (searches_too_many (texts folders.now) job.now ≡ true)) }
+{
+    if are_too_many(&job.folders) || are_too_many(&job.object_folders) || are_too_many(folders) {
+        lines.extend_from_slice(b"doslink: more than 64 folders are to be searched\n")?;
+        return Err(Halt::Words);
+    }
+    Ok(())
+}
+
+/// Stops where a job names nothing that could be linked, or the program by the extension of a form that it doesn't say,
+/// or asks for two things on standard output, or for more folders than are searched.
+fn check_job<A: Allocator + Copy>(
+    job: &Job<'_>,
+    folders: &[&str],
+    lines: &mut Vec<u8, A>,
+) -> Result<(), Halt>
+    ensures { MatchResult result (λ done. IsNamedWell (texts folders.now) job.now)
         (λ why. OnHalt why ⊥
-        (NamesNothing job.now ⊎ ((asks_other_form job.now ≡ true) ⊎ (mixes_output job.now ≡ true)))) }
+        (NamesNothing job.now ⊎ ((asks_other_form job.now ≡ true) ⊎ ((mixes_output job.now ≡ true)
+        ⊎ (searches_too_many (texts folders.now) job.now ≡ true))))) }
 {
     if job.inputs.is_empty() {
         lines.extend_from_slice(b"doslink: no file is named to be linked\n")?;
         return Err(Halt::Words);
     }
-    check_form(job, directives, lines)?;
-    check_output(job, lines)
+    check_form(job, lines)?;
+    check_output(job, lines)?;
+    check_folders(job, folders, lines)
 }
 
 /// Does a job. What it tells is appended to the lines.
@@ -170,13 +199,14 @@ fn do_job<W: World + Copy, O: Write + Drop, A: Allocator + Copy>(
 ) -> Result<(), Halt>
     requires { sink_failures output.old ≡ 0 }
     ensures { MatchResult result
-        (λ done. IsNamedWell job.now × AreApart (W.looks world) job.now.verbose (out_path job.now) (map_path job.now)
+        (λ done. IsNamedWell (texts besides.now.folders.now) job.now × AreApart (W.looks world) job.now.verbose (out_path job.now) (map_path job.now)
         × IsDone A (W.bytes world) (StandsAt (W.blank world) (W.Puts world)) (texts besides.now.folders.now) job.now)
         (λ why. OnHalt why
-        (IsNamedWell job.now × IsRefusedJob A (W.bytes world) (texts besides.now.folders.now) job.now)
-        (IsWrongJob (W.bytes world) (W.looks world) job.now)) }
+        (IsNamedWell (texts besides.now.folders.now) job.now
+        × IsRefusedJob A (W.bytes world) (texts besides.now.folders.now) job.now)
+        (IsWrongJob (W.bytes world) (W.looks world) (texts besides.now.folders.now) job.now)) }
 {
-    check_job(job, besides.directives, lines)?;
+    check_job(job, besides.folders, lines)?;
     let arena = Bump::new(alloc);
     let gathered = gather(alloc, &world, &arena, job, besides, lines)?;
     link_gathered(alloc, world, job, &gathered, output, lines)
@@ -184,10 +214,11 @@ fn do_job<W: World + Copy, O: Write + Drop, A: Allocator + Copy>(
 
 /// Does a job, with the memory of this allocator, and hands out the exit status: 0 where the program is written, 1
 /// where an input is at fault, 2 where nothing is named to be linked, OUT has the extension of another form than .EXE
-/// and none is said, standard output would hold the list of what is linked and the program or its map, or what would
-/// be written is one of the files that are read, a module or a library, or the map the program, 3 where a file, a
-/// device or memory failed. What went wrong is told on standard error. Default libraries are looked up in
-/// `besides.folders` too, behind those of the job.
+/// and none is said, standard output would hold the list of what is linked and the program or its map, more than 64
+/// folders of libraries, of objects or of the environment are to be searched, or what would be written is one of the
+/// files that are read, a module or a library, or the map the program, 3 where a file, a device or memory failed. What
+/// went wrong is told on standard error. Default libraries are looked up in `besides.folders` too, behind those of the
+/// job.
 pub fn run_job<W: World + Copy, O: Write + Drop, E: Sink, A: Allocator + Copy>(
     alloc: A,
     world: W,

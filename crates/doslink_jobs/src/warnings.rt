@@ -1,5 +1,5 @@
 //! Warnings of a program that was linked, and can't be run as it is meant.
-ghost use Rattle.std.specs.Prelude.{◌≡◌, ◌++◌, [], OnOk, map, slice_get};
+ghost use Rattle.std.specs.Prelude.{◌≡◌, ◌&&◌, ◌++◌, [], OnOk, map, nat_lt, slice_get};
 ghost use Rattle.std.specs.List.{flat_map, list_any};
 ghost use Rattle.std.specs.Option.{unwrap_or};
 ghost use Rattle.omf_communal.specs.Deciding.{variable_said};
@@ -11,7 +11,7 @@ ghost use Rattle.doslink_jobs.specs.inside.Warnings as spec;
 use crate::inputs::options_of;
 use crate::limit::{push_rest, told_count};
 use doslink_telling::{push_no_code, push_no_stack, push_no_start, push_reached};
-use doslink_words::{Form, Job};
+use doslink_words::{Job, has_header};
 use omf_communal::{Reached, Variable, far_by_offset};
 use omf_module::{Kind, Module, Standing};
 use std::alloc::{AllocError, Allocator};
@@ -29,12 +29,20 @@ fn is_stack(standing: Standing) -> bool
     }
 }
 
-/// Whether a module has a part of the stack.
+/// Whether a segment that stands so, and has so many bytes, is a part of the stack with a byte.
+fn holds_stack(standing: Standing, length: u32) -> bool
+    ensures { result ≡ (is_kind Kind.Stack standing && nat_lt 0 length) }
+{
+    is_stack(standing) && length > 0
+}
+
+/// Whether a module has a byte of the stack.
 fn has_stack<A: Allocator + Copy>(one: &Module<A>) -> bool
     ensures { result ≡ spec.has_stack one.now }
 {
     for index in 0..one.segment_count() {
-        if is_stack(one.segment(index).standing) {
+        let part = one.segment(index);
+        if holds_stack(part.standing, part.length) {
             return true;
         }
     }
@@ -65,7 +73,7 @@ fn have_start<A: Allocator + Copy>(modules: &[Module<A>]) -> bool
     false
 }
 
-/// Whether some module has a part of the stack.
+/// Whether some module has a byte of the stack.
 fn have_stack<A: Allocator + Copy>(modules: &[Module<A>]) -> bool
     ensures { result ≡ list_any spec.has_stack modules.now }
 {
@@ -128,13 +136,6 @@ fn warn_of_code<A: Allocator + Copy>(
     push_no_code(lines)
 }
 
-/// Whether the file has a header, which says where the program starts and where its stack is.
-pub(crate) fn has_header(job: &Job<'_>) -> bool
-    ensures { result ≡ spec.has_header job.now.form }
-{
-    matches!(job.form, None | Some(Form::Exe | Form::LimitedExe { .. }))
-}
-
 /// Warns where no module has a start or a stack, of which a file with a header tells.
 fn warn_of_header<A: Allocator + Copy>(
     job: &Job<'_>,
@@ -143,7 +144,7 @@ fn warn_of_header<A: Allocator + Copy>(
 ) -> Result<(), AllocError>
     ensures { OnOk result (lines.new.items ≡ lines.old.items ++ spec.header_warnings job.now.form modules.now) }
 {
-    if !has_header(job) {
+    if !has_header(job.form) {
         return Ok(());
     }
     warn_of_start(modules, lines)?;

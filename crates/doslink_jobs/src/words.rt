@@ -15,7 +15,7 @@ ghost use Rattle.doslink_jobs.specs.Runs.{RunsNamed, RunsSpoken, RunsText, RunsW
 
 use crate::directive_names::{name_of, with_name};
 use crate::directives::{
-    Spoken, directive_line, directives_of, push_warnings, response_path, response_text,
+    Spoken, directive_line, directives_of, push_all_warnings, response_path, response_text,
 };
 use crate::lines::run_linker;
 use crate::running::{finish, run_job, run_lines};
@@ -38,8 +38,6 @@ pub struct Besides<'b> {
     pub folders: &'b [&'b str],
     /// The files that its words or directives were read of.
     pub read: &'b [FileId],
-    /// Whether its words are directives, in which it is told then what to say.
-    pub directives: bool,
 }
 
 /// What a run takes of the environment.
@@ -85,7 +83,7 @@ pub(crate) fn is_called(name: &[u8], program: &[u8], with_exe: &[u8]) -> bool
 fn language_named(name: &[u8]) -> Option<Language>
     ensures { result ≡ spec.language_named name.now }
 {
-    if is_called(name, b"wlink", b"wlink.exe") {
+    if is_called(name, b"wlink", b"wlink.exe") || is_called(name, b"jwlink", b"jwlink.exe") {
         Some(Language::Directives)
     } else if is_called(name, b"link", b"link.exe") {
         Some(Language::Link)
@@ -97,7 +95,7 @@ fn language_named(name: &[u8]) -> Option<Language>
 }
 
 /// How the words of a program of this name are read: as those of `wlink`, `link` or `tlink` where its last part is
-/// that, with `.exe` or without, and else as those of `doslink`.
+/// that, with `.exe` or without, and else as those of `doslink`. `jwlink` is `wlink` by another name.
 pub fn language_of(program: &str) -> Language
     ensures { result ≡ spec.language_of program.now }
 {
@@ -167,13 +165,12 @@ fn run_parsed<W: World + Copy, O: Write + Drop, E: Sink>(
         (Tells E.written E.failures errors.old errors.new) result }
 {
     let mut lines = Vec::new(alloc);
-    if push_warnings(&directives, spoken, &mut lines).is_err() {
+    if push_all_warnings(&directives, spoken, &mut lines).is_err() {
         return out_of_memory(errors);
     }
     let besides = Besides {
         folders,
         read: &spoken.read,
-        directives: true,
     };
     match name_of(alloc, &directives.job) {
         Ok(name) => {
@@ -399,7 +396,6 @@ fn run_response<W: World + Copy, O: Write + Drop, E: Sink>(
             let besides = Besides {
                 folders,
                 read: &read,
-                directives: false,
             };
             run_list(alloc, world, text.as_str(), &besides, output, errors)
         }
@@ -435,11 +431,7 @@ fn run_command<W: World + Copy, O: Write + Drop, E: Sink>(
     match only_response(words) {
         Some(path) => run_response(alloc, world, path, folders, output, errors),
         None => {
-            let besides = Besides {
-                folders,
-                read: &[],
-                directives: false,
-            };
+            let besides = Besides { folders, read: &[] };
             run_plain(alloc, world, words, &besides, output, errors)
         }
     }

@@ -115,10 +115,11 @@ module _ {A : Type 0} (names : Names) (modules : List Module) (report : Report A
         → Forms items (Some (Raw paragraph from)) names modules report r
     as_raw paragraph from law whole (Ok made) (none, same) =
         let of = linked.reported.linked.program in
-        is_formed (Some (Raw paragraph from)) (items made) none
-        (subst (IsLocatedFrom paragraph from report.layout modules) (sym same)
-        (law report.layout modules report.program of is paragraph from),
-        whole report.layout modules report.program of is from (of_modules (Some (Raw paragraph from)) None none))
+        is_formed (Some (Raw paragraph from)) (items made) none (
+          subst (IsLocatedFrom paragraph from report.layout modules) (sym same)
+              (law report.layout modules report.program of is paragraph from),
+          whole report.layout modules report.program of is from (of_modules (Some (Raw paragraph from)) None none),
+        )
     as_raw paragraph from law whole (Err e) wrong =
         is_refused items (Some (Raw paragraph from)) (bin_bytes paragraph from report.program) e wrong
 

@@ -16,7 +16,7 @@ use Rattle.doslink_words.specs.declared.job.Job.{Job}
 use Rattle.doslink_words.specs.Tokens.{texts}
 use Rattle.doslink_jobs.specs.declared.gathering.DefaultLibrary.{DefaultLibrary}
 use Rattle.doslink_jobs.specs.declared.gathering.Gathered.{Gathered}
-use Rattle.doslink_jobs.specs.Jobs.{AreGiven, IsAskedBy, names_of}
+use Rattle.doslink_jobs.specs.Jobs.{AreGiven, IsAskedBy, library_folders, names_of}
 use Rattle.doslink_jobs.specs.inside.Gathering.{Holds}
 use Rattle.doslink_jobs.specs.inside.Warnings.{told_lines}
 
@@ -129,13 +129,13 @@ pub record AreAbsentBehind {A : Type 0} (told : Text → Option (List ℕ)) (fol
   pub absent_are : new ≡ old ++ all_absent lookups
 
 -- Of the files that a job names, and then default libraries, where it asks for these, those that aren't found were
--- warned of: they are looked up in rounds, and in other folders too, behind those of the job.
+-- warned of: they are looked up in rounds.
 pub record AreAbsentTold {A : Type 0} (told : Text → Option (List ℕ)) (folders : List Text) (job : Job)
     (gathered : Gathered A) (old new : List ℕ) : Type 0 where
   pub given : List (List ℕ)
   pub lookups : List (List Lookup)
-  pub are_given : AreGiven told job given
-  pub are_lookups : AreAllLookups told (texts job.folders.items ++ folders) (texts job.left_out.items)
+  pub are_given : AreGiven told folders job given
+  pub are_lookups : AreAllLookups told (library_folders folders job) (texts job.left_out.items)
       (names_of job.ignore_case)
       (given ∷ []) lookups
   pub none : job.default_libraries ≡ false → lookups ≡ []

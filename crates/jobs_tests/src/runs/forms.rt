@@ -54,8 +54,24 @@ pub(crate) const DOSSEG: [u8; 57] = [
     0x8A, 0x06, 0x00, 0xC1, 0x50, 0x01, 0x00, 0x01, 0x5D,
 ];
 
+/// A device driver that asks for the order DOSSEG.
+pub(crate) const DRIVER: [u8; 53] = [
+    0x80, 0x05, 0x00, 0x03, 0x64, 0x2E, 0x63, 0x83, 0x88, 0x03, 0x00, 0x00, 0x9E, 0xD7, 0x96, 0x0D,
+    0x00, 0x00, 0x05, 0x5F, 0x54, 0x45, 0x58, 0x54, 0x04, 0x43, 0x4F, 0x44, 0x45, 0x95, 0x98, 0x07,
+    0x00, 0x28, 0x01, 0x00, 0x02, 0x03, 0x01, 0x32, 0xA0, 0x05, 0x00, 0x01, 0x00, 0x00, 0xC3, 0x97,
+    0x8A, 0x02, 0x00, 0x00, 0x74,
+];
+
+/// A program whose stack has no byte.
+pub(crate) const EMPTY_STACK: [u8; 61] = [
+    0x80, 0x05, 0x00, 0x03, 0x7A, 0x2E, 0x63, 0x6D, 0x96, 0x0D, 0x00, 0x00, 0x04, 0x43, 0x4F, 0x44,
+    0x45, 0x05, 0x53, 0x54, 0x41, 0x43, 0x4B, 0xC3, 0x98, 0x07, 0x00, 0x28, 0x01, 0x00, 0x02, 0x02,
+    0x01, 0x33, 0x98, 0x07, 0x00, 0x34, 0x00, 0x00, 0x03, 0x03, 0x01, 0x26, 0xA0, 0x05, 0x00, 0x01,
+    0x00, 0x00, 0x90, 0xCA, 0x8A, 0x06, 0x00, 0xC1, 0x50, 0x01, 0x00, 0x00, 0x5E,
+];
+
 /// The modules, by their names.
-pub(crate) const FORM_MODULES: [(&str, &[u8]); 7] = [
+pub(crate) const FORM_MODULES: [(&str, &[u8]); 9] = [
     ("COMED.OBJ", &COMED),
     ("RELOC.OBJ", &RELOCATED),
     ("COMSTACK.OBJ", &STACKED),
@@ -63,6 +79,8 @@ pub(crate) const FORM_MODULES: [(&str, &[u8]); 7] = [
     ("BELOW.OBJ", &BELOW),
     ("OVER.OBJ", &TOO_LONG),
     ("NULLS.OBJ", &DOSSEG),
+    ("DRIVER.OBJ", &DRIVER),
+    ("NOSTACK.OBJ", &EMPTY_STACK),
 ];
 
 /// Runs with a form, in the form of the other tables.
@@ -73,6 +91,8 @@ doslink --form com RELOC.OBJ|1||doslink: link: 68 Relocated~
 doslink --form sys RELOC.OBJ|1||doslink: link: 68 Relocated~
 doslink --form bin RELOC.OBJ|0||
 doslink --form exe RELOC.OBJ|0||doslink: warning: no module has a stack~
+doslink NOSTACK.OBJ|0||doslink: warning: no module has a stack~
+doslink --stack 2 NOSTACK.OBJ|0||
 doslink --form com COMSTACK.OBJ|1||doslink: link: 69 StackSegment~
 doslink --form com --stack 16 COMED.OBJ -l RUN|1||doslink: link: 69 StackSegment~
 doslink --form sys COMSTACK.OBJ|0||
@@ -91,7 +111,7 @@ doslink --form exe -o P.COM COMED.OBJ -l RUN|0||doslink: warning: no module has 
 ";
 
 /// Runs with a form, the path at which each writes, and all that it writes there.
-pub(crate) const FORMED: [(&str, &str, &[u8]); 14] = [
+pub(crate) const FORMED: [(&str, &str, &[u8]); 18] = [
     // three modules, two of them of a library
     (
         "doslink --form com COMED.OBJ -l RUN",
@@ -106,7 +126,13 @@ pub(crate) const FORMED: [(&str, &str, &[u8]); 14] = [
     ("doslink --form bin --at 07C0 F.OBJ", "F.BIN", &[0x90]),
     ("doslink --form sys F.OBJ", "F.SYS", &[0x90]),
     ("doslink --form exe -o F.COM F.OBJ", "F.COM", &EXE_OF_F),
-    // no null bytes in a .COM file
+    // no null bytes in a file without header
+    ("doslink --form sys DRIVER.OBJ", "DRIVER.SYS", &[0xC3]),
+    (
+        "doslink --form bin --order dosseg DRIVER.OBJ",
+        "DRIVER.BIN",
+        &[0xC3],
+    ),
     ("doslink --form com NULLS.OBJ", "NULLS.COM", &[0xC3]),
     // a refusal leaves the older file
     ("doslink --form com -o P.COM RELOC.OBJ", "P.COM", b"old"),
@@ -120,6 +146,17 @@ pub(crate) const FORMED: [(&str, &str, &[u8]); 14] = [
     ),
     ("wlink @RAWLINES", "P.BIN", &[0xB8, 0x00, 0x00]),
     ("wlink @WHOLELINES", "P.BIN", &[0x90]),
+    // a folder alone has the first file's name, and no name stands beside standard output
+    (
+        "wlink file F.OBJ output raw name DIR/",
+        "DIR/F.bin",
+        &[0x90],
+    ),
+    (
+        "wlink file F.OBJ format dos name DIR/",
+        "DIR/F.exe",
+        &EXE_OF_F,
+    ),
     (
         "wlink file BELOW.OBJ output raw offset=255 name P.BIN",
         "P.BIN",

@@ -98,7 +98,7 @@ pub(crate) const FRONTED: [(&str, &str); 27] = [
 ];
 
 /// What TLINK.CFG has, and a run with it.
-pub(crate) const CONFIGURED: [(&[u8], &str); 18] = [
+pub(crate) const CONFIGURED: [(&[u8], &str); 19] = [
     (b"/c\r\n/x\r\n", "tlink F CAPITAL|0||"),
     (
         b"/c",
@@ -107,9 +107,10 @@ pub(crate) const CONFIGURED: [(&[u8], &str); 18] = [
     (b"/x ; -c/m;\n\n;", "tlink F CAPITAL|0||"),
     (b"/x\r\n\x1A/z", "tlink F|0||"),
     (
-        b"\x1A\xFF",
+        b"/x\xFF\x1A",
         "tlink /x F|2||doslink: TLINK.CFG: it is no UTF-8 text~",
     ),
+    (b"/x\x1A\xFF", "tlink F|0||"),
     (b"", "tlink /x F|0||"),
     (
         b"/x\r\n/z\r\n",

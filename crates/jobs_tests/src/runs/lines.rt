@@ -3,14 +3,19 @@ use super::forms::EXE_OF_F;
 use super::modules::OFFERS;
 
 /// Response files, and a module in a folder.
-pub(crate) const LINE_FILES: [(&str, &[u8]); 11] = [
+pub(crate) const LINE_FILES: [(&str, &[u8]); 15] = [
     ("OBJ/UNO.OBJ", &OFFERS),
     ("NUMBERED.OBJ", &NUMBERED),
     ("LINK.RSP", b"A+\r\nF /NOI\r\nP.EXE\r\n"),
+    // the end of a line that ends with a comma is none
+    ("COMMAS", b"F,\r\nP.EXE,\r\nNUL,\r\n;\r\n"),
+    ("OPTIONS", b"F, /NOI\r\nP.EXE\r\n"),
     ("OBJS", b"A +F\n"),
     ("LIBRARIES", b"RUN\n"),
     // nothing behind a Ctrl-Z counts
-    ("ENDED", b"F,P.EXE\r\n\x1A,nothing of this"),
+    ("ENDED", b"F,P.EXE\r\n\x1A,nothing of this\xFF"),
+    ("OWN", b"-o P.EXE F.OBJ\x1A\xFF\""),
+    ("SPOKEN", b"file F.OBJ name P.EXE\x1A\xFF'"),
     ("DEEP", b"F @DEEP"),
     ("DEEPER", b"@OBJS,P.EXE"),
     ("LINES2", b"F\nP.EXE\n/z\n"),
@@ -32,6 +37,7 @@ doslink --as ld F|2||doslink: behind --as stands link, tlink or wlink~
 tlink A|1||doslink: A.OBJ: \"f\" is missing: record 28 (0000001C), wanted by \"a.c\"~
 tlink /x A,,,RUN|0||
 link A,,NUL,RUN;|0||
+link A,,NUL,ENV;|0||
 link F CAPITAL;|1||doslink: link: 25 DuplicatePublic \"F\" in F.OBJ and CAPITAL.OBJ~
 link F CAPITAL /NOI;|0||
 tlink /x F CAPITAL|1||doslink: link: 25 DuplicatePublic \"F\" in F.OBJ and CAPITAL.OBJ~
@@ -64,10 +70,10 @@ tlink F /l|0||
 tlink F /s|0||doslink: warning: the map tells of no module's parts of segments~
 tlink /x F /l /s|0||
 link F,P.COM;|0||doslink: warning: P.COM: an EXE file is written: /T makes a .COM file~
-link F,p.sys /CP:1;|0||doslink: warning: p.sys: an EXE file is written: /T makes a .COM file~
+link F,p.sys /CP:1;|0||doslink: warning: p.sys: an EXE file is written: doslink --form sys makes a device driver~
 tlink /x F,p.com|0||doslink: warning: p.com: an EXE file is written: /t makes a .COM file~
-tlink /x F,P.BIN|0||doslink: warning: P.BIN: an EXE file is written: /t makes a .COM file~
-tlink /x F,P.IMG|0||doslink: warning: P.IMG: an EXE file is written: /t makes a .COM file~
+tlink /x F,P.BIN|0||doslink: warning: P.BIN: an EXE file is written: doslink --form bin makes a raw image~
+tlink /x F,P.IMG|0||doslink: warning: P.IMG: an EXE file is written: doslink --form bin makes a raw image~
 tlink /x/t F,P.COM|1||doslink: link: 70 OtherStart~
 link F,COM;|0||
 tlink /t RELOC|1||doslink: link: 68 Relocated~
@@ -75,11 +81,13 @@ link RELOC /T;|1||doslink: link: 68 Relocated~
 link F,P,CON;|0||
 link F,P,con /INF;|2||doslink: -: it would be the map and the list of what is linked~
 link F,con;|2||doslink: line 1, column 3: \"con\": a file is expected, and no device~
+link F,NUL:;|2||doslink: line 1, column 3: \"NUL:\": a file is expected, and no device~
+tlink F,P,prn:|2||doslink: line 1, column 5: \"prn:\": a file is expected, and no device~
 link F,F.OBJ;|2||doslink: F.OBJ: it is read and would be written~
 ";
 
 /// Runs of lines, the path at which each writes, and all that it writes there.
-pub(crate) const LINED: [(&str, &str, &[u8]); 21] = [
+pub(crate) const LINED: [(&str, &str, &[u8]); 25] = [
     ("link F;", "F.EXE", &EXE_OF_F),
     ("link OBJ/UNO;", "UNO.EXE", &EXE_OF_F),
     ("link OBJ/UNO,OBJ/DUO;", "OBJ/DUO.EXE", &EXE_OF_F),
@@ -92,6 +100,10 @@ pub(crate) const LINED: [(&str, &str, &[u8]); 21] = [
     ("tlink /x OBJ/UNO", "UNO.EXE", &EXE_OF_F),
     ("tlink /x F,P", "P.EXE", &EXE_OF_F),
     ("link @ENDED", "P.EXE", &EXE_OF_F),
+    ("link @COMMAS", "P.EXE", &EXE_OF_F),
+    ("link @OPTIONS", "P.EXE", &EXE_OF_F),
+    ("doslink @OWN", "P.EXE", &EXE_OF_F),
+    ("wlink @SPOKEN", "P.EXE", &EXE_OF_F),
     ("tlink /x /Tde F,P.COM", "P.COM", &EXE_OF_F),
     (
         "link COMED,,,RUN /T;",
@@ -207,7 +219,7 @@ const EXE_OF_F_WITH_258: [u8; 33] = [
 ];
 
 /// Runs of lines, the path of the program of each, and whether it writes a map at `P.MAP`.
-pub(crate) const MAPPED: [(&str, &str, bool); 12] = [
+pub(crate) const MAPPED: [(&str, &str, bool); 13] = [
     // a folder alone has the map of the program's name, and no name at all is one in this folder
     ("link F,P,DIR/;", "P.EXE", false),
     ("link F,DIR/P,\"\";", "DIR/P.EXE", true),
@@ -220,5 +232,6 @@ pub(crate) const MAPPED: [(&str, &str, bool); 12] = [
     ("link F,P,,;", "P.EXE", true),
     ("link F,Q,P;", "Q.EXE", true),
     ("link F,P,NUL;", "P.EXE", false),
+    ("link F,P,NUL:;", "P.EXE", false),
     ("link F,P /M;", "P.EXE", true),
 ];

@@ -9,7 +9,8 @@ use super::naming::{
 };
 use super::tables::{
     ALIAS_RUNS, COMMUNAL_RUNS, DEFAULT_RUNS, DOUBLED_RUNS, LIMITED_RUNS, LOCAL_DEFAULT_RUNS,
-    LONG_RUNS, MISSING_RUNS, REFUSED_RUNS, RUNS, SEARCH_RUNS, SUM_RUNS, SYMBOL_RUNS, WARNED_RUNS,
+    LONG_RUNS, MISSING_RUNS, REFUSED_RUNS, REPEATED, RUNS, SEARCH_RUNS, SUM_RUNS, SYMBOL_RUNS,
+    WARNED_RUNS,
 };
 use super::world::{
     ARCHIVES, AS_MANY, CUT, CUT_TO_16, CUT_TO_32, DIRECTIVES, FAR_DATA, FAR_TOO_LONG,
@@ -339,26 +340,25 @@ fn limited_runs_tell_so_many_lines(rt: HostRuntime) -> Result<(), Fail> {
     Ok(())
 }
 
-/// What a run of directives does in which a file of them is named so many times.
-fn run_repeated(alloc: Global, times: usize) -> Result<Done, AllocError> {
-    let mut words = String::from_str(alloc, "wlink file F.OBJ option quiet")?;
+/// What a run does of words behind which others stand so many times.
+fn run_repeated(alloc: Global, front: &str, word: &str, times: usize) -> Result<Done, AllocError> {
+    let mut words = String::from_str(alloc, front)?;
     for _ in 0..times {
-        words.push_str(" @IDLE")?;
+        words.push_str(word)?;
     }
     run_row(alloc, words.as_str(), "")
 }
 
 #[test]
-fn directives_have_so_many_files_at_most(rt: HostRuntime) -> Result<(), Fail> {
-    let done = run_repeated(rt.alloc(), 200)?;
-    assert_eq!(rt; (done.status, count_lines(&done.errors)), (0, 0));
-    let done = run_repeated(rt.alloc(), 201)?;
-    let told = String::from_utf8_lossy(rt.alloc(), &done.errors)?;
-    assert_eq!(rt; done.status, 2);
-    assert_eq!(rt;
-        told.as_str(),
-        "doslink: IDLE: a line has at most 200 response files\n"
-    );
+fn so_many_files_and_folders_are_taken(rt: HostRuntime) -> Result<(), Fail> {
+    for (front, word, most, last) in &REPEATED {
+        let done = run_repeated(rt.alloc(), front, word, *most)?;
+        assert_eq!(rt; (done.status, count_lines(&done.errors)), (0, 0), "{word}");
+        let done = run_repeated(rt.alloc(), front, word, *most + 1)?;
+        let told = String::from_utf8_lossy(rt.alloc(), &done.errors)?;
+        assert_eq!(rt; done.status, 2, "{word}");
+        assert_eq!(rt; told.as_str(), *last, "{word}");
+    }
     Ok(())
 }
 

@@ -6,6 +6,8 @@ pub(crate) const RUNS: &str = "\
 doslink A.OBJ F.OBJ|0||
 doslink -v A.OBJ F.OBJ RUN.LIB|0|A.OBJ~F.OBJ~|
 doslink -v A.OBJ RUN.LIB|0|A.OBJ~RUN.LIB(b.c) for \"f\"~RUN.LIB(c.c) for \"g\"~|
+doslink -v A.OBJ -l ENV|0|A.OBJ~ENV/ENV.LIB(b.c) for \"f\"~ENV/ENV.LIB(c.c) for \"g\"~|
+jwlink file A.OBJ library ENV|0||
 doslink A.OBJ -l RUN|0||
 doslink A.OBJ|1||doslink: A.OBJ: \"f\" is missing: record 28 (0000001C), wanted by \"a.c\"~
 doslink A.OBJ D.OBJ|1||doslink: A.OBJ: \"f\" is missing: record 28 (0000001C), wanted by \"a.c\"; \"_f\" is in D.OBJ~
@@ -219,10 +221,10 @@ doslink -o A.COM A.OBJ F.OBJ|2||doslink: A.COM: without a form an EXE file is wr
 doslink -o a.sys A.OBJ F.OBJ|2||doslink: a.sys: without a form an EXE file is written: say --form sys, or --form exe~
 doslink -o A.bin A.OBJ F.OBJ|2||doslink: A.bin: without a form an EXE file is written: say --form bin, or --form exe~
 doslink -o A.IMG A.OBJ F.OBJ|2||doslink: A.IMG: without a form an EXE file is written: say --form bin, or --form exe~
-wlink name A.COM file A.OBJ,F.OBJ|2||doslink: A.COM: without a form an EXE file is written: say format dos com, or format dos exe~
-wlink name a.sys file A.OBJ,F.OBJ|2||doslink: a.sys: without a form an EXE file is written: say output raw, or format dos exe~
-wlink name A.bin file A.OBJ,F.OBJ|2||doslink: A.bin: without a form an EXE file is written: say output raw, or format dos exe~
-wlink name A.IMG file A.OBJ,F.OBJ|2||doslink: A.IMG: without a form an EXE file is written: say output raw, or format dos exe~
+wlink name A.COM file A.OBJ,F.OBJ|0||doslink: warning: A.COM: an EXE file is written: format dos com makes a .COM file~
+wlink name a.sys op q file A.OBJ,F.OBJ|0||doslink: warning: a.sys: an EXE file is written: doslink --form sys makes a device driver~
+wlink name A.bin file A.OBJ,F.OBJ|0||doslink: warning: A.bin: an EXE file is written: output raw makes a raw image~
+wlink name A.IMG file A.OBJ|1||doslink: warning: A.IMG: an EXE file is written: output raw makes a raw image~doslink: A.OBJ: \"f\" is missing: record 28 (0000001C), wanted by \"a.c\"~
 wlink name A.COM format dos exe file A.OBJ,F.OBJ|0||
 doslink -v -o - A.OBJ F.OBJ|2||doslink: -: it would be the program and the list of what is linked~
 doslink -v -m - A.OBJ F.OBJ|2||doslink: -: it would be the map and the list of what is linked~
@@ -236,9 +238,9 @@ doslink -o - -m OUTPUT A.OBJ F.OBJ|2||doslink: OUTPUT: it would be the program a
 doslink -v -o /dev/stdout A.OBJ F.OBJ|2||doslink: /dev/stdout: it would be the program and the list of what is linked~
 doslink -v -o OUTPUT A.OBJ F.OBJ|2||doslink: OUTPUT: it would be the program and the list of what is linked~
 doslink -v -m OUTPUT A.OBJ F.OBJ|2||doslink: OUTPUT: it would be the map and the list of what is linked~
-doslink -o - A.OBJ F.OBJ @OUTPUT|2||doslink: -: it is read and would be written~
-doslink -m - A.OBJ F.OBJ @OUTPUT|2||doslink: -: it is read and would be written~
-doslink -v A.OBJ F.OBJ @OUTPUT|2||doslink: -: it is read and would be written~
+doslink -o - A.OBJ F.OBJ OUTPUT|2||doslink: -: it is read and would be written~
+doslink -m - A.OBJ F.OBJ OUTPUT|2||doslink: -: it is read and would be written~
+doslink -v A.OBJ F.OBJ OUTPUT|2||doslink: -: it is read and would be written~
 doslink -o LINK.EXE A.OBJ F.OBJ|2||doslink: LINK.EXE: it is read and would be written~
 doslink -m D.OBJ A.OBJ F.OBJ|2||doslink: D.OBJ: it is a module or a library and would be written~
 doslink OUTSIDE.OBJ|1||doslink: OUTSIDE.OBJ: 11 SegmentIndex at record 17~
@@ -291,7 +293,7 @@ doslink FULL.OBJ HUGE.OBJ|1||doslink: link: 23 ProgramTooLarge: 2,146,369,560 by
 
 /// Runs of which more than 20 lines of a kind are told: the words, a word that stands 22 times behind them, how many
 /// lines are told, and the last of them.
-pub(crate) const LIMITED_RUNS: [(&str, &str, usize, &str); 8] = [
+pub(crate) const LIMITED_RUNS: [(&str, &str, usize, &str); 10] = [
     ("doslink", " WIDE.OBJ", 21, "doslink: and 2 more\n"),
     (
         "doslink -v",
@@ -320,6 +322,8 @@ pub(crate) const LIMITED_RUNS: [(&str, &str, usize, &str); 8] = [
     ),
     ("wlink @SORTS", "", 21, "doslink: and 2 more\n"),
     ("doslink", " A.OBJ", 21, "doslink: and 2 more\n"),
+    ("doslink", " F.OBJ", 1, " and F.OBJ and 2 more\n"),
+    ("doslink -v", " F.OBJ", 1, " and F.OBJ and F.OBJ\n"),
 ];
 
 /// Runs that are warned of what can't be run, in the same form.
@@ -337,3 +341,20 @@ doslink WEAKFAR.OBJ STARTED.OBJ|0||doslink: warning: \"far\" of WEAKFAR.OBJ is f
 doslink SPACE.OBJ|0||\
 doslink: warning: no module has a start~doslink: warning: no module has a stack~doslink: warning: no module has a byte of code~
 ";
+
+/// Words, others of which so many may stand behind them, and what is told of one more.
+pub(crate) const REPEATED: [(&str, &str, usize, &str); 5] = [
+    (
+        "wlink file F.OBJ option quiet",
+        " @IDLE",
+        200,
+        "doslink: IDLE: a line has at most 200 response files\n",
+    ),
+    ("wlink file F.OBJ", " libpath f", 64, MANY_FOLDERS),
+    ("wlink file F.OBJ", " path f", 64, MANY_FOLDERS),
+    ("doslink F.OBJ", " -L f", 64, MANY_FOLDERS),
+    ("tlink /x F", " /Lf", 64, MANY_FOLDERS),
+];
+
+/// What is told of more folders than are searched.
+const MANY_FOLDERS: &str = "doslink: more than 64 folders are to be searched\n";

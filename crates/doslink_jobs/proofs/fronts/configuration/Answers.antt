@@ -1,6 +1,5 @@
-use Rattle.std.proofs.Common.{ap, inl, inr, string_bytes, ◌∙◌}
-use Rattle.std.specs.List.{before_first}
-use Rattle.doslink_jobs.specs.Lines.{is_end}
+use Rattle.std.proofs.Common.{inl, inr}
+use Rattle.doslink_jobs.proofs.Refused.{halts-weaker}
 use Rattle.doslink_jobs.proofs.fronts.configuration.Goals as goal
 
 pub returns-then-is_nothing_at : goal.returns-then-is_nothing_at
@@ -8,8 +7,4 @@ returns-then-is_nothing_at g c = inl (c.is_nothing_at.ensures c.if-is_nothing_at
 
 pub returns : goal.returns
 returns g c =
-    inr (
-      string_bytes c.in_ok-file.file,
-      c.in_ok-file.ensures,
-      c.in_ok-from_str.ensures.ok ∙ c.up_to_end.ensures ∙ ap (before_first is_end) c.as_str.ensures.value,
-    )
+    halts-weaker c.response_text.result (λ said is. inr is) (λ none. none) (λ wrong. wrong) c.response_text.ensures

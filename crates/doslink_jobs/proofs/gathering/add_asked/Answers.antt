@@ -1,7 +1,7 @@
 use Rattle.std.proofs.Common.{◌≡◌, ◌++◌, ◌∷◌, [], false, true≢false, MatchResult, OnOk, ap}
 use Rattle.std.proofs.Common.{map, refl, subst, sym, ◌∙◌}
 use Rattle.doslink_words.specs.Tokens.{texts}
-use Rattle.doslink_jobs.specs.Jobs.{names_of}
+use Rattle.doslink_jobs.specs.Jobs.{library_folders, names_of}
 use Rattle.doslink_jobs.proofs.Refused.{steps-weaker}
 use Rattle.doslink_jobs.proofs.Rounds.{files-found, files-none}
 use Rattle.doslink_jobs.specs.inside.Absent.{AreAbsentBehind, absent_warnings, library_said}
@@ -34,7 +34,7 @@ returns-clause-told g c =
     let r = c.add_defaults-added.result in
     let gathered = c.add_defaults-added.new.gathered in
     let absent = map library_said c.add_defaults-added.new.absent.items in
-    let folded : all ≡ texts job.folders.items ++ folders = ap texts c.deref.ensures.value ∙
+    let folded : all ≡ library_folders folders job = ap texts c.deref.ensures.value ∙
     c.in_ok-everywhere.ensures in
     let on : job.default_libraries ≡ false → ⊥ = λ off. true≢false (sym c.if-not-job.false ∙ off) in
     let behind = subst (λ ls. OnOk r (AreAbsentBehind told all (texts ls) names (given ∷ []) gathered
@@ -59,7 +59,7 @@ returns-clause-files g c =
     let folders = texts c.args.folders.now in
     let all = texts c.deref.result.now in
     let names = names_of job.ignore_case in
-    let folded : all ≡ texts job.folders.items ++ folders = ap texts c.deref.ensures.value ∙
+    let folded : all ≡ library_folders folders job = ap texts c.deref.ensures.value ∙
     c.in_ok-everywhere.ensures in
     let on : job.default_libraries ≡ false → ⊥ = λ off. true≢false (sym c.if-not-job.false ∙ off) in
     let r = c.add_defaults-added.result in

@@ -20,7 +20,7 @@ returns-then-stands_as_input g c =
     OnHalt-words ⊥ c.stop_at_path-then-stands_as_input.result c.stop_at_path-then-stands_as_input.ensures
     (inr (
       subst (λ p. IfSome (g.W.World.looks c.args.world.now) (λ look. stands_regular look p ≡ true)) same
-      (c.stands_as_input.ensures.regular begins),
+          (c.stands_as_input.ensures.regular begins),
       subst (λ p. IfSome (g.W.World.bytes c.args.world.now p) BeginsAsInput) same
-      (c.stands_as_input.ensures.begins begins),
+          (c.stands_as_input.ensures.begins begins),
     ))

@@ -6,7 +6,9 @@ use Rattle.doslink_jobs.proofs.running.do_job.Goals as goal
 pub returns-in_err-check_job : goal.returns-in_err-check_job
 returns-in_err-check_job g c =
     halt-exit _ c.from_residual.result _ c.from_residual.ensures.1 (λ none. absurd none)
-    (⊎_elim (λ none. inl none) (⊎_elim (λ other. inr (inl other)) (λ mixed. inr (inr (inl mixed)))))
+    (⊎_elim (λ none. inl none)
+    (⊎_elim (λ other. inr (inl other))
+    (⊎_elim (λ mixed. inr (inr (inl mixed))) (λ many. inr (inr (inr (inl many)))))))
     c.in_err-check_job.ensures
 
 pub returns-in_err-gathered : goal.returns-in_err-gathered
@@ -20,4 +22,5 @@ returns g c =
     halts-weaker c.link_gathered.result
     (λ done (apart, linked). (c.in_ok-check_job.ensures, apart, (rounds, are, linked)))
     (λ refused. (c.in_ok-check_job.ensures, (rounds, are, inr refused)))
-    (λ over. inr (inr (inr (has_file c.in_ok-gathered.gathered.read, over)))) (c.link_gathered.ensures rounds searched)
+    (λ over. inr (inr (inr (inr (has_file c.in_ok-gathered.gathered.read, over)))))
+    (c.link_gathered.ensures rounds searched)

@@ -14,7 +14,7 @@ returns g c =
     let folders = texts c.args.besides.now.folders.now in
     let looks = g.W.World.looks c.args.world in
     let job = c.args.job.now in
-    ends (IsNamedWell job × AreApart looks job.verbose (out_path job) (map_path job)
+    ends (IsNamedWell folders job × AreApart looks job.verbose (out_path job) (map_path job)
     × IsDone g.row.A.Denot told Writes folders job)
-    (IsNamedWell job × IsRefusedJob g.row.A.Denot told folders job) (IsWrongJob told looks job) _
+    (IsNamedWell folders job × IsRefusedJob g.row.A.Denot told folders job) (IsWrongJob told looks folders job) _
     c.do_job-done.result c.finish.result _ c.finish.ensures.status c.do_job-done.ensures c.finish.ensures.told
