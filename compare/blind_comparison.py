@@ -1,6 +1,7 @@
 """Runs `doslink` and its model on the same jobs, on a system whose names of files tell no cases apart.
 
-There are no lines of LINK and TLINK, for which the model looks for names by itself.
+There are no lines of LINK and TLINK, for which the model looks for names by itself; directives name files as they are,
+but for what parts folders.
 """
 
 import doslink_comparison
@@ -13,7 +14,8 @@ lines_of_ends, summary = doslink_comparison.lines_of_ends, doslink_comparison.su
 class Comparison(doslink_comparison.Comparison):
     """Compares one job after the other, as on such a system."""
 
-    has_lines = False
+    has_lines = tells_cases = False
+    names = (doslink_comparison.LINK, doslink_comparison.DIRECTIVES)
 
     def files_of(self, case, given):
         return BlindFiles({**case.files, **given})

@@ -23,11 +23,14 @@ class Comparison(comparison.Comparison):
 
     # whether a seed is a job by the words of doslink or wlink, and whether it is one by a line of LINK or TLINK
     has_words = has_lines = True
+    # whether names of files tell cases apart
+    tells_cases = True
+    # by what names the program is called, so it reads words, directives or lines; all others stand behind --as
+    names = (LINK, DIRECTIVES, *LINES, "jwlink", "JWLink.EXE")
 
     def __init__(self, program, top, keeps=False):
         super().__init__(program, top, keeps)
-        # by what name it is called, so it reads words, directives or lines
-        self.programs = {name: top / name for name in (LINK, DIRECTIVES, *LINES)}
+        self.programs = {name: top / name for name in self.names}
         for path in self.programs.values():
             path.symlink_to(program)
 
@@ -35,7 +38,7 @@ class Comparison(comparison.Comparison):
         """The jobs of a seed; raises a Difference."""
         if self.has_words:
             chance = random.Random(seed)
-            self.compare_case(chance, jobs.case(chance, seed))
+            self.compare_case(chance, jobs.case(chance, seed, tells_cases=self.tells_cases))
         if self.has_lines:
             chance = random.Random(f"{seed} by a line")
             self.compare_case(chance, jobs.case(chance, seed, has_lines=True))
@@ -74,16 +77,16 @@ class Comparison(comparison.Comparison):
         self.counts.ends[case.program, answer.fault] += 1
         if self.keeps:
             variable = [] if case.variable is None else [f"LINK={case.variable}"]
-            (self.folder / WORDS).write_text(" ".join([*variable, case.program, *case.words]) + "\n")
+            (self.folder / WORDS).write_text(" ".join([*variable, case.called, *case.words]) + "\n")
         expect("the faults", done.stderr, answer.error)
         expect("the status", [done.returncode], [answer.status])
         expect("the output", done.stdout, answer.output)
 
     def command(self, case):
         """The program by its name, or by another one and the words that say this one."""
-        if case.program != LINK and len(case.words) % 2:
-            return [self.programs[LINK], "--as", case.program, *case.words]
-        return [self.programs[case.program], *case.words]
+        if case.program != LINK and (len(case.words) % 2 or case.called not in self.programs):
+            return [self.programs[LINK], "--as", case.called, *case.words]
+        return [self.programs[case.called], *case.words]
 
     def compare_files(self, case, wanted):
         """The files that are there; those that were given are as they were."""
@@ -99,10 +102,10 @@ class Comparison(comparison.Comparison):
 
 def model_answer(case, files):
     """What the model answers to a case over its files."""
-    where = files, case.folders, files.can_be_made
-    if case.program in LINES:
-        return linking.link_by_line(case.program, case.words, *where, case.variable or "")
-    if case.program == DIRECTIVES:
+    where, language = (files, case.folders, files.can_be_made), linking.language_of(case.called)
+    if language in LINES:
+        return linking.link_by_line(language, case.words, *where, case.variable or "")
+    if language == DIRECTIVES:
         return linking.link_by_directives(case.words, *where)
     if case.words == ["@" + jobs.RESPONSE]:
         return linking.link_by_response(jobs.RESPONSE, files, lambda _: case.job, *where[1:])

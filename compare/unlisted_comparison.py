@@ -1,6 +1,6 @@
 """Runs `doslink` and its model on the same jobs, on a system that lists no folders.
 
-There names of files in lines of LINK and TLINK count as they are written, but for the slashes.
+There names of files in lines of LINK and TLINK, and in directives, count as they are written, but for the slashes.
 """
 
 import doslink_comparison

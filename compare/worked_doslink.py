@@ -498,6 +498,10 @@ LINES = [
     ("a stack", "link", ["a/ST:010;"], {"inputs": given(["a"]), "stack": Stack(8, True)}),
     ("a .COM file", "tlink", ["/x/t", "a"], {"inputs": given(["a"]), "form": Form("com")}),
     ("DOSSEG", "link", ["/NON", "a;"], {"inputs": given(["a"]), "order": ordering.DOSSEG, "has_null_bytes": False}),
+    ("no null bytes in front", "link", ["/NON", "/DO", "a;"], {
+        "inputs": given(["a"]), "order": ordering.DOSSEG, "has_null_bytes": False}),
+    ("no null bytes behind", "link", ["/DO", "a/NON;"], {
+        "inputs": given(["a"]), "order": ordering.DOSSEG, "has_null_bytes": False}),
     ("no library by default, and not this one", "link", ["/NOD:x", "/NOD", "a;"], {
         "inputs": given(["a"]), "has_default_libraries": False, "left_out": ["x"]}),
     ("folders", "tlink", ["/x", "/Lc;d", "a/n"], {
@@ -519,7 +523,9 @@ LINES = [
     ("an octal number", "link", ["a", "/ST:08;"], 'line 1, column 3: "/ST:08": a number from 1 to 65536 is expected behind `:`'),
     ("a number that isn't there", "link", ["a", "/CP;"], 'line 1, column 3: "/CP": a number from 0 to 65535 is expected behind `:`'),
     ("a name of several", "link", ["a", "/PA;"], 'line 1, column 3: "/PA": more of the option\'s name is expected: it is short for several'),
-    ("a front of a name alone", "link", ["a", "/L;"], 'line 1, column 3: "/L": unknown option'),
+    ("no front of a name", "link", ["a", "/LX;"], 'line 1, column 3: "/LX": unknown option'),
+    ("the front of a name alone", "link", ["a", "/L;"], {
+        "inputs": given(["a"]), "maps_to_out": True, "map_has_lines": True}),
     ("a value of no number", "link", ["a", "/ON:EXE;"], 'line 1, column 3: "/ON:EXE": NOEXE is expected behind `:`'),
     ("p-code", "link", ["a", "/PC;"], 'line 1, column 3: "/PC": p-code isn\'t linked'),
     ("a device", "link", ["a,con;"], 'line 1, column 3: "con": a file is expected, and no device'),
@@ -643,6 +649,7 @@ FILES = {
     "far.obj": far_module("28 0200 03 01 00", (0xA0, "01 0000 0909")),
     "own.obj": far_module("68 0200 03 01 00", *OWN_FRAME),
     "own17.obj": far_module("68 1100 03 01 00", *OWN_FRAME), "long.obj": far_module("68 F0FF 02 01 00"),
+    "many.obj": CALLED, "apple.o": b"\xCA\xFE\xBA\xBE\n",
     "f/L": LIBRARY, "f/L.LIB": MAGIC, "f/Y": CALLED, "g/L.LIB": LIBRARY, "bad": b"\xFF"}
 # 17 bytes of each module; the call's end is at 3 and x at 19
 EIGHT = header("2800 0100 0000 0200 0100" + MOST + NO_REGISTERS) + NO_TABLE
@@ -670,21 +677,45 @@ REACHED = [
 ]
 
 # directives, and what is told of them; a file of them that is named too often
-SPOKEN_FILES = {**FILES, "idle": b"sort global"}
+SPOKEN_FILES = {
+    **FILES, "idle": b"sort global", "f/JOB.lnk": b"name F\\P", "twice.OBJ": FILES["absolute.obj"],
+    "Twice.obj": FILES["absolute.obj"]}
 SPOKEN = [
-    (["file", "m.obj", "name", "p.com"],
-     "doslink: p.com: without a form an EXE file is written: say format dos com, or format dos exe\n"),
-    (["file", "m.obj", "name", "p.IMG"],
-     "doslink: p.IMG: without a form an EXE file is written: say output raw, or format dos exe\n"),
+    (["file", "absolute.obj", "name", "p.com"],
+     "doslink: warning: p.com: an EXE file is written: format dos com makes a .COM file\n"),
+    (["sort", "global", "file", "m.obj", "name", "p.SYS", "@idle"],
+     "doslink: warning: line 1: the map is not sorted\ndoslink: warning: idle: line 1: the map is not sorted\n"
+     "doslink: warning: p.SYS: an EXE file is written: doslink --form sys makes a device driver\n"
+     'doslink: m.obj: "x" is missing: record 26 (0000001A), wanted by "M"\n'),
+    (["sort", "global", "file", "none.obj", "name", "f\\p.IMG", "option", "quiet"],
+     "doslink: warning: f\\p.IMG: an EXE file is written: output raw makes a raw image\n"
+     "doslink: none.obj: 1 Device at record 0: no such file\n"),
+    (["file", "absolute.obj", "name", "p.com", "format", "dos", "exe"], ""),
+    (["file", "absolute.obj", "name", "p.bin/p"], "doslink: p.bin/p.exe: 40 Device\n"),
+    # names of DOS: of a file of directives, modules, a library and the program
+    (["@F\\job", "file", "M.OBJ", "library", "F\\l"], ""),
+    (["file", "TWICE.OBJ", "name", "p"],
+     "doslink: TWICE.OBJ: 1 Device at record 0: two names there differ by case alone\n"),
+    (["file", "Twice.obj", "option", "quiet", "name", "M.obj"],
+     "doslink: M.obj: it is a module or a library and would be written\n"),
     (["file", "absolute.obj", "option", "quiet", *200 * ["@idle"]], ""),
+    (["file", "absolute.obj", *64 * ["libpath", "f"], *64 * ["path", "f"]], ""),
+    (["file", "absolute.obj", *65 * ["libpath", "f"]], "doslink: more than 64 folders are to be searched\n"),
+    (["file", "none.obj", *65 * ["path", "f"]], "doslink: more than 64 folders are to be searched\n"),
     (["file", "absolute.obj", "option", "quiet", *200 * ["@idle"], "@more"],
      "doslink: more: a line has at most 200 response files\n"),
 ]
-# lines that write an EXE file by the name of another form
+# what a program reads by its name
+CALLED_SO = [
+    ("wlink", "wlink"), ("jwlink", "wlink"), ("JWLink.EXE", "wlink"), ("LINK", "link"), ("tlink.exe", "tlink"),
+    ("doslink", "doslink"), ("xwlink", "doslink")]
+# lines that write an EXE file by the name of another form, and the folder of LIB, which is LINK's alone
 NAMED_BY_LINES = [
     ("link", ["absolute.obj,p.com;"], "doslink: warning: p.com: an EXE file is written: /T makes a .COM file\n"),
-    ("tlink", ["/x", "absolute.obj,p.Bin"], "doslink: warning: p.Bin: an EXE file is written: /t makes a .COM file\n"),
+    ("tlink", ["/x", "absolute.obj,p.Bin"], "doslink: warning: p.Bin: an EXE file is written: doslink --form bin makes a raw image\n"),
     ("tlink", ["/x", "absolute.obj,com"], ""),
+    ("link", ["M,p,,l;"], ""), ("tlink", ["/x", "M,p,,l;"], "doslink: l: 1 Device at record 0: no such file\n"),
+    ("tlink", ["/x", "/LG", "M,p,,l;"], ""),
 ]
 
 # title, what is asked for, the folders of LIB, and the bytes of OUT or the lines on standard error,
@@ -737,8 +768,11 @@ LINKS = [
      "doslink: L: 1 Device at record 0: no such file\n", ""),
     ("nor modules where libraries are", {"inputs": given(["m.obj", "Y"]), "folders": ["f"]}, [],
      "doslink: Y: 1 Device at record 0: no such file\n", ""),
-    ("LIB is for default libraries", {"inputs": given(["m.obj"], ["L"])}, ["g"],
-     "doslink: L: 1 Device at record 0: no such file\n", ""),
+    ("a library of LIB", {"inputs": given(["m.obj"], ["L"])}, ["g"], PROGRAM, 'm.obj\ng/L.LIB(X) for "x"\n'),
+    ("folders of the job come first", {"inputs": given(["m.obj"], ["L"]), "folders": ["f"]}, ["g"],
+     PROGRAM, 'm.obj\nf/L(X) for "x"\n'),
+    ("modules aren't looked for in LIB", {"inputs": given(["m.obj", "Y"])}, ["f"],
+     "doslink: Y: 1 Device at record 0: no such file\n", ""),
     ("a default library of this folder", {"inputs": given(["t.obj"])}, ["f"],
      'doslink: t.obj: "x" is missing: record 26 (0000001A), wanted by "T"\n', "t.obj\n"),
     ("no default libraries", {"inputs": given(["t.obj"]), "has_default_libraries": False}, ["f"],
@@ -750,6 +784,12 @@ LINKS = [
      "two.obj\nm.obj\nf/Y\n"),
     ("a name twice", {"inputs": given(["x.obj", "x.obj"])}, [],
      'doslink: link: 25 DuplicatePublic "x" in x.obj and x.obj\n', "x.obj\nx.obj\n"),
+    ("a name 1,021 times", {"inputs": given(["x.obj", *1020 * ["many.obj"]]), "is_verbose": False}, [],
+     f'doslink: link: 25 DuplicatePublic "x" in x.obj{19 * " and many.obj"} and 1,001 more\n', ""),
+    ("and all of that", {"inputs": given(["x.obj", *20 * ["many.obj"]])}, [],
+     f'doslink: link: 25 DuplicatePublic "x" in x.obj{20 * " and many.obj"}\n', "x.obj\n" + 20 * "many.obj\n"),
+    ("a Mach-O file of the other order", {"inputs": given(["apple.o"])}, [],
+     "doslink: apple.o: 3 Truncated at record 0: this is a Mach-O file; nasm wants -f obj\n", "apple.o\n"),
     ("a segment of 65,536 bytes", {"inputs": given(["half.obj", "half.obj"])}, [], "",
      "half.obj\nhalf.obj\n"),
     ("and of one more", {"inputs": given(["half.obj", "over.obj"])}, [],
@@ -1398,7 +1438,7 @@ def check_order():
 def check_directives():
     for text, wanted in SPLIT:
         assert directives.split_words(text) == wanted, text
-    without = vars(Job(packs_far_data=True, has_null_bytes=False, by_directives=True))
+    without = vars(Job(packs_far_data=True, has_null_bytes=False))
     for title, text, wanted in DIRECTIVES:
         try:
             job = vars(directives.read_directives(directives.lines_of(text)))
@@ -1647,11 +1687,18 @@ def check_links():
         wanted = f'doslink: warning: "far" of far.obj {linking.IS_REACHED}\n'
         assert without_lacks(answer.error.decode()) == wanted, title
     for words, wanted in SPOKEN:
-        answer = linking.link_by_directives(words, SPOKEN_FILES)
+        files = PlacedFiles(SPOKEN_FILES)
+        answer = linking.link_by_directives(words, files, can_be_made=files.can_be_made)
         assert without_lacks(answer.error.decode()) == wanted, words
     for language, words, wanted in NAMED_BY_LINES:
-        answer = linking.link_by_line(language, words, PlacedFiles(FILES))
+        answer = linking.link_by_line(language, words, PlacedFiles(FILES), ["G"])
         assert without_lacks(answer.error.decode()) == wanted, words
+    for called, wanted in CALLED_SO:
+        assert linking.language_of(called) == wanted, called
+    for length, wanted in ((1, ["start", "byte of code"]), (0, ["start", "stack", "byte of code"])):
+        made = framed([(0x80, "0153"), (0x96, "00 05535441434B"), (0x98, f"74 {length:02X}00 02 02 01"), (0x8A, "00")])
+        answer = linking.link(Job(given(["absolute.obj", "s.obj"]), "out"), {**FILES, "s.obj": made})
+        assert answer.error.decode().splitlines() == [each for each in LACKS if each.split(" a ")[-1] in wanted], length
     for asked, wanted in OUTS:
         assert linking.Linking(Job(**asked), {}, [], None, None).places()[0] == wanted, asked
     job = Job(given(["m.obj"], ["x.lib"]), "out", "map", order=ordering.DOSSEG)

@@ -9,7 +9,7 @@ from generator.communals import (
     module_of_no_number)
 from generator.lines import (
     BEHIND_TEXT, CALLS, CONFIGURATIONS, LINES_OF_TLINK, LINK, MARKED_LINES, MARKED_LINES_OF_TLINK, ODD_CONFIGURATIONS,
-    ODD_FRONTS, ODD_LINES, OTHER_OPTIONS, TLINK, WRONG_WORDS, LineSpeller, in_another_case)
+    ODD_FRONTS, ODD_LINES, OTHER_OPTIONS, TLINK, WRONG_WORDS, LineSpeller, by_dos, in_another_case)
 from generator.libraries import (
     ARCHIVE, SMALL_PAGES, SYMBOL_TABLES, archive, archive_of_symbols, archive_with_symbols, damaged,
     foreign, library, with_header)
@@ -27,6 +27,8 @@ from model.placement import folded
 from model.records import Location
 
 OUT, MAP, RESPONSE, NO_FOLDER = "out.exe", "out.map", "response", "missing/"
+# what reads directives, and by what other names it is called
+WLINK, CALLED = "wlink", ["jwlink", "jwlink", "JWLINK", "JWLink.EXE", "jwlink.exe", "WLINK", "Wlink.exe"]
 FOLDER, OTHER_FOLDER, LAST_FOLDER = "parts", "more/", "last"
 OBJECT_FOLDER, OLD_FOLDER = "objs", "old/"
 MOST_PARTS, MANY_EVERY = 16_383, 500
@@ -78,6 +80,8 @@ CHAIN_EVERY, TWICE_EVERY, ALONE_EVERY = 250, 250, 250
 # one has what is linked told where the program or the map is written, and one as many files of directives as there
 # may be, or one more
 MIXED_EVERY, FILES_EVERY = 250, 250
+# as many folders of each kind as are searched, or one more
+FOLDERS_EVERY, MANY_FOLDERS = 60, [(65, 0, 0), (64, 64, 64), (0, 65, 0), (0, 0, 65), (32, 32, 1), (1, 1, 63)]
 # one job in so many has a segment of no alignment, which is lowered or not; one a number of no form
 AMISS_EVERY, NO_NUMBER_EVERY = 200, 250
 # one has an offset, of 32 bits or 16, with a sum of the most or one more
@@ -103,7 +107,7 @@ OFFSETS_EVERY, OFFSETS = 25, [
     "1k", "1K", "0x1k", "0X1K", "1024", "0x400", "0X3fF", "1025", "1026", "0x0k", "100000h", "0x100000", "1048576",
     "1048577", "0x100001", "1024k", "1025k", "1m", "0M", "1kk"]
 # one has publics that differ by case alone, and lines that say whether it counts
-CASES_EVERY, CASE_LINES = 25, [
+CASES_EVERY, CASE_LINES = 50, [
     "option nocaseignore", "option noignorecase", "option nocaseexact", "option caseexact", "option caseignore",
     "option ignorecase", "op nocaseexact, nocaseignore", "option NoIgnoreCase, NoCaseExact", "op c"]
 # one names no program: forms, and whether directives ask for them
@@ -140,7 +144,8 @@ MARKS_EVERY, CLEARED = 50, [
 # one has a file that is no module, or one that is and is cut
 FOREIGN_EVERY, FOREIGN = 50, [
     b"", b"\x7FELF\1\1\1\0", b"\x4C\1\0\0", b"\x64\x86\1\0", b"\xCE\xFA\xED\xFE\7\0",
-    b"\xCF\xFA\xED\xFE\7\0", b"MZ\x90\0", b"!<thin>\n/ 0", b"\tmov ax,1\r\n\f\x1A", b"x\0y",
+    b"\xCF\xFA\xED\xFE\7\0", b"\xFE\xED\xFA\xCE\r\n", b"\xFE\xED\xFA\xCF\0\0", b"\xCA\xFE\xBA\xBE\n",
+    b"\xFE\xED\xFA\xCD", b"\xCA\xFE\xBA\xBF\n", b"MZ\x90\0", b"!<thin>\n/ 0", b"\tmov ax,1\r\n\f\x1A", b"x\0y",
     255 * b"a" + b"\0", 256 * b"a" + b"\0", b"ab\x7F", b"caf\xC3\xA9\n", b"\x80\3", b"\x82\3\0",
     b"\x88\3\0\0\0\0\x8C\4\0\1q\0\0\x99\2\0\x28\0"]
 # one has an archive of members that are no modules, of which one has a missing name by the table of
@@ -178,7 +183,7 @@ LINES_OF_NOTHING = [
     "op q", "alias %s=x" % (255 * "n"), "libpath {x, y}", "libp {z}", "path x", "reference {}", "libpath {}"]
 LEFT_OUT = [
     "option symfile", "sort global", "disable 1014", "option symfile=out.sym", "op CACHE",
-    "option quiet,verbose", "option map, showdead", "OPTION NoFarCalls", "sort glob alpha disable 1, 2",
+    "option quiet,verbose", "option map, showdead", "option mangled", "op man", "OPTION NoFarCalls", "sort glob alpha disable 1, 2",
     "d watcom lines, types\noption quiet,\n symf", "op v # option verbose", "option artificial", "op art, stat",
     "option cache=x", "option farcalls", "op maxe=3", "op sho, verb", "option nocache", "option noc=1", "sort gl alp",
     "sort alphabetical"]
@@ -194,7 +199,7 @@ SPOKEN_FILES = {
     "ending.lnk": b"file 0.obj name o.exe\n", "both": b"file 0.obj name o.exe\n", "both.lnk": b"file 0.obj name p.exe\n",
     "dot.x.lnk": b"file 0.obj name o.exe\n", "a.b/ending.lnk": b"file 0.obj name o.exe\n", "folder/x": b"name p",
     "folder.lnk": b"file 0.obj name o.exe\n", "ended": b"file 0.obj name o.exe\n\x1Aname p.exe\n\x1A",
-    "ended.lnk": b"", "cut": b"file 0.obj\x1A 'x", "none": b"\x1Aname p.exe",
+    "ended.lnk": b"", "cut": b"file 0.obj\x1A 'x\xE9", "none": b"\x1Aname p.exe",
     "crlf": b"file 0.obj\r\nname 'o\r\n"}
 # words that name these, or a program without an extension
 SPOKEN_WORDS = [
@@ -203,8 +208,45 @@ SPOKEN_WORDS = [
     ["@ending", "name ending.lnk"], ["@folder"], ["@a.b\\ending"], ["@crlf"],
     ["file com", "name o"], ["file com", "name o system com"], ["@ending.lnk"],
     ["file com name o format dos exe"], ["file com name O output raw"], ["file com name - system com"],
-    ["file com name -"], ["file com name o.x"], ["file com name o."], ["file 0.obj", "system"], ["file 0.obj", "format"],
-    ["file 0.obj", "name"], ["file com", "name o.com"]]
+    ["file com name -"], ["file com name sub/"], ["file com name sub/ format dos com"], ["file obj/com.x name 'sub/'"],
+    ["library com name sub/"], ["file com name - option map"], ["file com name sub\\"],
+    ["file com name o.x"], ["file com name o."], ["file 0.obj", "system"], ["file 0.obj", "format"],
+    ["file 0.obj", "name"], ["file com", "name o.com"], ["@none", "@cut", "name o"]]
+# words that name a program as one of another form is, which is told where no form is said
+MISNAMED_WORDS = [
+    ["file com name o.com"], ["file com name P.COM option quiet, map, verbose"], ["file com name p.sys sort global"],
+    ["file com name a.Bin", "disable 1014"], ["file com name p.IMG option quiet"],
+    ["file nowhere name p.img sort global"],
+    ["file lacks name o.com"], ["file lacks.obj name o.bin format dos"], ["file com name 'p.bin' system dos"],
+    ["file com name o.com format dos exe"], ["file com name p.bin format dos com"], ["file com name o.com output raw"],
+    ["file com name o.img system com"], ["file com name p.com/o"], ["file com name .\\o.com"], ["file com name com"],
+    ["file com name o.com format dos com format dos"], ["file com name o.sys", "foo"], ["name o.com"],
+    ["file com.obj name o.SYS", *24 * ["sort global"]], ["file com name o.Com op map", "file com"],
+    ["file lacks library nowhere name o.IMG op quiet"]]
+# files of directives, and words that name files by names of DOS, beside those of a line that is wrong, or seems so
+NAMES_OF_DOS = {
+    "Job.Lnk": b"file 0.OBJ name O.exe\n", "twice.lnk": b"file 0.obj\n", "Twice.lnk": b"file 0.obj name p.exe\n",
+    "sub/Job": b"file Sub\\A\nname o.exe\n"}
+BY_DOS_WORDS = [
+    ["@job", "file 0 name JOB.LNK"], ["@JOB"], ["file y name o"], ["@job.lnk"], ["@SUB\\JOB"], ["@twice"],
+    ["@Twice.LNK"], ["@TWICE.LNK"], ["@nowhere\\job"],
+    ["file SUB\\A name out.exe"], ["file sub\\a.obj,'0.Obj' name OUT.EXE"], ["file Two\\Y name o.exe"],
+    ["file two\\y.obj name o.exe"], ["file 0 name o.exe library two\\L"], ["file 0", "name o", "library L libpath TWO"],
+    ["file 0 name o library l"], ["file 0 library l libpath SUB;two name o"],
+    ["file 0 name SUB\\old.exe option map=Sub/OLD.map"],
+    ["file Fold\\a name o"], ["file FOLD\\A name o"], ["file 0 name Fold\\b"],
+    ["file 0 name fold\\prog option map=SUB\\List"],
+    ["file 0 name TWO\\Y.OBJ"], ["file 0 option map=two\\y.obj name o"], ["file 0 name .\\0.Obj"],
+    ["file 0 name SUB\\l.lib"], ["file y path TWO;sub name o"],
+    ["file A path nowhere;SUB name o"],
+    ["file 0 name Sub\\"], ["file Sub name o"], ["file 0 name New\\prog"], ["file 'Sub\\\u00c9' name o"],
+    ["file 0 name out option map=OUT.EXE"], ["file 0 name o library SUB\\L"], ["file 0 name o", "libfile a path sub"],
+    ["file mixed\\X name o"], ["file MIXED name o"],
+    ["file 0 name o", "library Lib\\libc"]]
+# one job in so many is made of each of these
+MISNAMED_EVERY, BY_DOS_EVERY = 50, 50
+# and one has stacks of these lengths, and asks for none
+EMPTY_EVERY, EMPTY_STACKS = 50, [[0], [0, 0], [0, 1], [1, 0], [0, 0, 0]]
 # lines that ask for something else than the rest, or say it once more
 OTHER_LINES = [
     "name two.exe", "option nocaseignore", "option noignorecase", "option nocaseexact",
@@ -239,7 +281,7 @@ SHORTEST = {
 
 @dataclass
 class Case:
-    """A job: the files that are there, the words, and the program's name.
+    """A job: the files that are there, the words, the program's name, and how it is called, by this or another name.
 
     The folders are those of LIB, and between them stands a sign. The variable is LINK of the environment, where it is
     there.
@@ -252,15 +294,16 @@ class Case:
     folders: list = field(default_factory=list)
     between: str = ":"
     variable: Optional[str] = None
+    called: str = "doslink"
 
 
 class JobMaker:
     """Makes one job."""
 
-    def __init__(self, random, has_lines=False):
+    def __init__(self, random, has_lines=False, tells_cases=True):
         self.random = random
-        # whether the job is asked for by a line of LINK or TLINK
-        self.has_lines = has_lines
+        # whether the job is asked for by a line of LINK or TLINK, and whether names of files tell cases apart
+        self.has_lines, self.tells_cases = has_lines, tells_cases
         # the environment's LINK, where it is there
         self.variable = None
         self.files = {}
@@ -566,6 +609,14 @@ class JobMaker:
         is_cut = lengths == [0x10000] or self.happens(0.4)
         return self.by_directives() if is_cut else self.asked()
 
+    def make_empty_stacks(self, lengths):
+        """Modules with stacks of these lengths, of which most have no byte, and no length that is wanted."""
+        for number, length in enumerate([None, *lengths]):
+            self.files[f"{number}.obj"] = module_of_stack(b"STACK", b"STACK", length, self.random)
+            self.give(f"{number}.obj")
+        self.folders, self.job.map = [], MAP
+        return self.asked()
+
     def make_form(self, amiss):
         """A .COM program, or one that isn't for what is amiss, in some form."""
         form = Form("com") if self.happens(0.5) else self.a_form()
@@ -704,7 +755,7 @@ class JobMaker:
         """As many lines of a kind as are told, or more of them."""
         kinds = [
             self.many_missing, self.many_twice, self.many_absent, self.many_libraries,
-            self.many_wide, self.many_left_out, self.many_reached]
+            self.many_wide, self.many_left_out, self.many_reached, self.many_alike]
         turn, which = divmod(number, len(kinds))
         self.folders, self.job.is_verbose = [], self.happens(0.3)
         return kinds[which](LINE_COUNTS[turn % len(LINE_COUNTS)])
@@ -718,6 +769,15 @@ class JobMaker:
         for name in ("0.obj", "1.obj"):
             self.files[name] = module_of_publics([b"n%d" % each for each in range(count)])
             self.give(name)
+        return self.asked()
+
+    def many_alike(self, count):
+        """A name of so many publics, of two modules in turn, of one that has all, or of that and one more."""
+        self.files["0.obj"], self.files["1.obj"] = (module_of_publics(some * [b"x"]) for some in (1, count - 1))
+        self.files["more.obj"] = module_of_publics((count + 1000) * [b"x"])
+        self.give(*self.random.choice([
+            (["1.obj", "0.obj"] * count)[2:count + 2], ["0.obj", "1.obj"], ["1.obj", "0.obj"], ["more.obj"],
+            ["0.obj", "more.obj"], count * ["0.obj"]]))
         return self.asked()
 
     def many_absent(self, count):
@@ -819,7 +879,23 @@ class JobMaker:
         self.files["0.obj"], self.folders = module_of_links([b"x"], [], b"NOWHERE"), []
         self.files["com.obj"] = module_of_form(0, 3, 0x100, ())
         self.files.update(SPOKEN_FILES)
-        return self.case(list(words), "wlink")
+        return self.case(list(words), WLINK)
+
+    def make_misnamed(self, *words):
+        """Words of directives that ask for no form, or for one, by the name of another; the link may fail."""
+        self.files["com.obj"], self.folders = module_of_form(0, 3, 0x100, ()), []
+        self.files["lacks.obj"] = module_of_links([b"x"], [b"y"], b"NOWHERE")
+        return self.case(list(words), WLINK)
+
+    def make_by_dos(self, *words):
+        """Words of directives that name files as DOS does, beside files that are called otherwise by case."""
+        if not self.tells_cases:
+            return self.make_spoken(*words)
+        self.files["0.obj"], self.folders = module_of_publics([b"x"]), [self.random.choice(["Two", "TWO", "sub"])]
+        for path in BESIDE:
+            self.files[path] = module_of_publics([path.encode()])
+        self.files.update({**OLDER, **NAMES_OF_DOS})
+        return self.case(list(words), WLINK)
 
     def make_quiet(self):
         """Directives that ask for faults alone, where a default library isn't there."""
@@ -834,6 +910,14 @@ class JobMaker:
         self.add_some_objects()
         self.job.out, self.job.map, self.job.is_verbose, self.job.form = out, map_name, True, None
         return self.case(self.words(), "doslink")
+
+    def make_many_folders(self, libraries, objects, others):
+        """So many folders of libraries, of modules and of the environment, in which nothing stands."""
+        self.files["0.obj"] = module_of_links([b"x"], [], b"NOWHERE")
+        self.give("0.obj")
+        self.job.folders, self.job.object_folders = ["f"] * libraries, ["o"] * objects
+        self.folders = ["e"] * others
+        return self.by_directives() if objects or self.happens(0.5) else self.case(self.words(), "doslink")
 
     def make_many_responses(self, count):
         """As many files of directives as there may be, or one more."""
@@ -921,7 +1005,7 @@ class JobMaker:
             self.files[path] = content
             self.insert(Input(path))
             return
-        self.put(name, content, self.job.folders)
+        self.put(name, content, [*self.job.folders, *self.folders])
         self.insert(Input(name, is_library=True))
         if self.happens(0.1):
             # given twice
@@ -943,7 +1027,7 @@ class JobMaker:
             self.files[self.random.choice(places) + self.file_of(name)] = self.library_content()
         if self.happens(0.01):
             # where it isn't looked for
-            places = ["other/", LAST_FOLDER + "/"]
+            places = ["other/", OBJECT_FOLDER + "/"]
         self.files[self.random.choice(places) + self.file_of(name)] = content
 
     def add_default_libraries(self):
@@ -1025,6 +1109,9 @@ class JobMaker:
             self.move_inputs()
         if language == TLINK and self.happens(0.2):
             self.move_to_folders()
+        if language == TLINK and self.happens(0.8):
+            # LIB isn't looked into
+            job.folders = [*job.folders, *filter(None, self.folders)]
         if self.happens(0.3):
             self.put_other_cases()
         job.form, job.keeps_debug, job.is_verbose = Form(kinds.get(kind, kind)), False, self.happens(0.5)
@@ -1125,13 +1212,14 @@ class JobMaker:
         self.give("code.obj")
         self.folders, self.job.order, self.job.form = [], order, None
         self.job.has_null_bytes = self.happens(0.5)
-        return self.by_line(language)
+        # both options, in any order
+        return self.by_line(language, ["/DO", "/non"] if language == LINK and self.happens(0.4) else [])
 
     def make_deep(self, language, deep):
         """Response files that name one another."""
         self.files["0.obj"], self.folders = module_of_publics([b"x"]), []
         for number in range(deep):
-            self.files[f"r{number}"] = b"@r%d\r\n" % (number + 1) if number + 1 < deep else b"0,out\n;\r\n\x1Ax"
+            self.files[f"r{number}"] = b"@r%d\r\n" % (number + 1) if number + 1 < deep else b"0,out\n;\r\n\x1Ax\xE9"
         return self.case(["@r0"], language)
 
     def make_many_files(self, language, count):
@@ -1165,6 +1253,12 @@ class JobMaker:
         words = ["/NOD:" + self.random.choice(["slibce", "SLIBCE.LIB", "other", "slibce.lib", "SLIB"])]
         return self.by_line(LINK, words)
 
+    def make_of_lib(self, language, line):
+        """A library in LIB's folder, which a line names, or only a module."""
+        self.files["0.obj"], self.folders = module_of_links([], [b"x"], b"L"), [LAST_FOLDER]
+        self.files[f"{LAST_FOLDER}/L.LIB"] = library(self.random, [module_of_publics([b"x"])], SMALL_PAGES)
+        return self.case([line], language)
+
     def make_map(self, form, option=None):
         """A map in a form, of publics in groups, of absolute ones and of any; or, with line numbers, that of a line with
         an option."""
@@ -1182,8 +1276,9 @@ class JobMaker:
         variable = self.variable
         if variable is None and self.happens(0.2):
             variable = self.random.choice(["", " ", *CALLS]) if program == LINK else "/q nothing"
+        called = self.random.choice(CALLED) if program == WLINK and self.happens(0.4) else program
         return Case(
-            self.files, self.job, words, program, self.folders, self.random.choice(":;"), variable)
+            self.files, self.job, words, program, self.folders, self.random.choice(":;"), variable, called)
 
     def text_of(self, words):
         """A response file of words; rarely one that isn't there, or is wrong."""
@@ -1194,6 +1289,8 @@ class JobMaker:
         text = "".join(word + space for word, space in zip(quoted, spaces)).encode()
         if self.happens(0.02):
             return self.random.choice([None, text + b"\xE9", text + b'"a'])
+        if self.happens(0.05):
+            return text + self.random.choice([b"\x1A", b"\x1A\xE9", b'\x1A"a', b"\x1A x.obj\n", b"\x1A\x1A"])
         return text
 
     def words(self):
@@ -1284,18 +1381,28 @@ class JobMaker:
             job.inputs = [each for each in job.inputs if each.is_library]
         if self.happens(0.2):
             self.move_to_folders()
+        if self.tells_cases and self.happens(0.15):
+            self.put_other_cases()
         lines = self.joined(list(map(self.in_any_case, self.lines())))
         if self.happens(0.8):
             self.files[RESPONSE] = self.text_of_lines(lines)
-            return self.case(["@" + RESPONSE], "wlink")
+            return self.case(["@" + self.spelling(RESPONSE)], WLINK)
         parts, words = self.parts_of(lines), []
         for number, part in enumerate(parts):
             if len(part) == 1 and not part[0].startswith("@") and self.happens(0.5):
                 words.append(part[0])
             else:
                 self.files[f"{RESPONSE}{number}"] = self.text_of_lines(part)
-                words.append(f"@{RESPONSE}{number}")
-        return self.case(words, "wlink")
+                words.append("@" + self.spelling(f"{RESPONSE}{number}"))
+        return self.case(words, WLINK)
+
+    def spelling(self, path):
+        """A path by a name of DOS."""
+        return by_dos(self.random, path, self.tells_cases)
+
+    def named(self, path):
+        """The same, in quotes or not."""
+        return self.quoted(self.spelling(path))
 
     def joined(self, lines):
         """The lines, of which some stand one behind the other."""
@@ -1326,8 +1433,8 @@ class JobMaker:
 
     def lines(self):
         job = self.job
-        lines = [] if job.out is None else [f"name {self.quoted(job.out)}"]
-        lines += [f"option map={job.map}"] if job.map and self.happens(0.7) else []
+        lines = [] if job.out is None else [f"name {self.named(job.out)}"]
+        lines += [f"option map={self.spelling(job.map)}"] if job.map and self.happens(0.7) else []
         lines += ["option map"] if job.map and self.happens(0.3) else []
         lines += ["option caseignore"] if job.ignores_case else []
         lines += ["option dosseg"] if job.order == ordering.DOSSEG else []
@@ -1343,7 +1450,7 @@ class JobMaker:
         self.random.shuffle(lines)
         lines = self.merged(lines, self.lists("reference", job.references))
         lines = self.merged(lines, self.alias_lines())
-        lines = self.merged(lines, self.lists("libpath", job.folders))
+        lines = self.merged(lines, self.lists("libpath", map(self.spelling, job.folders)))
         lines = self.merged(lines, self.path_lines())
         return self.merged(lines, self.given_lines())
 
@@ -1367,13 +1474,13 @@ class JobMaker:
         folders = self.job.object_folders
         if folders and self.happens(0.5):
             folders = [";".join(folders)]
-        return [f"path {self.quoted(each)}" for each in folders if each]
+        return [f"path {self.named(each)}" for each in folders if each]
 
     def given_lines(self):
         """The lines of what is linked, in its order."""
         library, lines = self.random.choice(["library", "library", "lib"]), []
         for is_library, some in groupby(self.job.inputs, key=lambda each: each.is_library):
-            lines += self.lists(library if is_library else "file", [each.name for each in some])
+            lines += self.lists(library if is_library else "file", [self.spelling(each.name) for each in some])
         return lines
 
     def size(self, length):
@@ -1466,13 +1573,17 @@ MADE = [
     (AMISS_EVERY, 11, in_turn(JobMaker.make_amiss)),
     (MIXED_EVERY, 4, in_turn(JobMaker.make_mixed, [("-", None), (OUT, "-"), ("-", "-")])),
     (FILES_EVERY, 30, in_turn(JobMaker.make_many_responses, [201, 200])),
+    (FOLDERS_EVERY, 13, in_turn(JobMaker.make_many_folders, MANY_FOLDERS)),
     (OFFSETS_EVERY, 0, in_turn(JobMaker.make_offset, [(each,) for each in OFFSETS])),
-    (CASES_EVERY, 15, in_turn(JobMaker.make_case_lines, CASE_LINES)),
+    (CASES_EVERY, 40, in_turn(JobMaker.make_case_lines, CASE_LINES)),
     (UNNAMED_EVERY, 34, in_turn(JobMaker.make_unnamed, UNNAMED)),
     (ENDED_EVERY, 22, in_turn(JobMaker.make_ended, [tuple(words) for words in ENDED_WORDS])),
     (WRONG_EVERY, 24, in_turn(JobMaker.make_wrong, OTHER_LINES)),
     (DRIVERS_EVERY, 4, in_turn(JobMaker.make_driver, DRIVERS)),
     (SPOKEN_EVERY, 2, in_turn(JobMaker.make_spoken, [tuple(words) for words in SPOKEN_WORDS])),
+    (MISNAMED_EVERY, 30, in_turn(JobMaker.make_misnamed, [tuple(words) for words in MISNAMED_WORDS])),
+    (BY_DOS_EVERY, 12, in_turn(JobMaker.make_by_dos, [tuple(words) for words in BY_DOS_WORDS])),
+    (EMPTY_EVERY, 35, in_turn(JobMaker.make_empty_stacks, [(lengths,) for lengths in EMPTY_STACKS])),
 ]
 
 
@@ -1508,15 +1619,17 @@ MADE_BY_LINES = [
     (40, 11, in_turn(JobMaker.make_deep, [
         (language, deep) for deep in (7, 8, 9, 3) for language in (LINK, TLINK)])),
     (40, 19, in_turn(JobMaker.make_many_files, [(LINK, 200), (TLINK, 201), (TLINK, 200), (LINK, 201)])),
-    (40, 39, in_turn(JobMaker.make_default_left_out, ["slibce.lib", "SLIBCE.LIB", "SLIBCE"])),
+    (80, 39, in_turn(JobMaker.make_default_left_out, ["slibce.lib", "SLIBCE.LIB", "SLIBCE"])),
+    (80, 79, in_turn(JobMaker.make_of_lib, [
+        (language, line) for line in ("0,out,,L", "0,out") for language in (TLINK, LINK)])),
     (20, 15, in_turn(JobMaker.make_map, [
         ("link",), (LINK, "/LI"), ("tlink",), (TLINK, "/l"), ("omf",), (LINK, "/LINENUM"), (TLINK, "/l/m")])),
 ]
 
 
-def case(random, number=1, has_lines=False):
+def case(random, number=1, has_lines=False, tells_cases=True):
     """A job and its files; of some numbers one that is made for one rule, often at its limit."""
-    maker, made = JobMaker(random, has_lines), MADE
+    maker, made = JobMaker(random, has_lines, tells_cases), MADE
     if has_lines:
         number, made = number // 2, made if number % 2 else MADE_BY_LINES
     for every, behind, make in made:

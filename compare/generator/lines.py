@@ -10,7 +10,7 @@ OTHER_OPTIONS = {
         ("WARNFIXUP", 1), ("INCREMENTAL", 3), ("EXEPACK", 1), ("FARCALLTRANSLATION", 1),
         ("NOFARCALLTRANSLATION", 3), ("PACKCODE", 5), ("PACKCODE:512", 5), ("PACKDATA", 5), ("PACKDATA:512", 5),
         ("NOPACKCODE", 3), ("NOEXTDICTIONARY", 3), ("SEGMENTS:0x100", 2), ("SEGMENTS:0X100", 2), ("MAP:FULL", 1),
-        ("MAP:ADDRESS", 1), ("MAP:f", 1), ("MAP:a", 1), ("LINENUMBERS", 2), ("PMTYPE", 2), ("CPARMAXALLOC:1", 2),
+        ("MAP:ADDRESS", 1), ("MAP:f", 1), ("MAP:a", 1), ("LINENUMBERS", 1), ("PMTYPE", 2), ("CPARMAXALLOC:1", 2),
         ("CPARMAXALLOC:0", 2), ("CPARMAXALLOC:0xFFFF", 2), ("CPARMAXALLOC:0XA", 2), ("CPARMAXALLOC:020", 2),
         ("MAP:200", 1), ("NONULLSDOSSEG", 3), ("NODEFAULTLIBRARYSEARCH:slibce", 3),
         ("NODEFAULTLIBRARYSEARCH:Runtime.A", 3), ("PACKFUNCTIONS", 5), ("NOPACKFUNCTIONS", 7), ("ONERROR:NOEXE", 2),
@@ -25,7 +25,8 @@ WRONG_WORDS = {
     LINK: [
         "/X", "/NO", "/ST:0", "/ST:65537", "/ST:089", "/ST:", "/ST:4k", "/CP:65536", "/CP:x", "/DS", "/HIGH", "/OLD",
         "/Q", "/NOG", "/DY", "(a+b)", '"a', "/NOI:1", "/SE:x", "/SE", "/M:x", "/STACKS", "-x", "@nowhere", "/", "/PACK",
-        "/S:4", "/C", "/nowhere/x.obj", "-nowhere/x.obj", "/D", "/L", "/IN", "/O", "/PAD", "/PA", "/DYNAMIC", "/OL",
+        "/S:4", "/C", "/nowhere/x.obj", "-nowhere/x.obj", "/D", "/LX", "/L:1", "/IN", "/O", "/PAD", "/PA", "/DYNAMIC",
+        "/OL",
         "/M:", "/SE:0x", "/F:1", "/A:", "/NOD:", "/PAUSE:1", "/HI",
         "/PC", "/PCODE:1", "/ON", "/ON:x", "/ONERROR:NOEXE2", "/PACKF:1", "/NOP:1"],
     TLINK: [
@@ -39,7 +40,8 @@ ODD_LINES = [
     "OBJECT,", "OBJECT,;", "OBJECT\nout\n\nnul\n", "OBJECT,out,/m", "OBJECT,out,nul/m", "OBJECT /m", "OBJECT+\n/e\nout", "OBJECT +/e\nout",
     "OBJECT,out.x.y", "OBJECT,,,sub\\ c:,nul", "OBJECT,,,sub/ x", "OBJECT,./out/e", "./0/e", "OBJECT,con.x;x", '"0/e"', "OBJECT,out.com", "OBJECT,out.bin", "OBJECT,more\\out", "OBJECT,,,nul",
     "sub/a;", '"sub\\a"', "sub/a.obj,,", "sub/a,sub/p", "com/t;", "com,prog/t", "com/t,prog.x",
-    "~my file", "~OBJECT out", "~OBJECT,my out;", "~0 com,out;", "~com 0+my", '~"my file" OBJECT,out;', "OBJECT,nul", "OBJECT,NUL.X,list", ",,,x.lib;", "OBJECT,,list.", "OBJECT,x\\y,", "OBJECT (x+y)",
+    "~my file", "~OBJECT out", "~OBJECT,my out;", "~0 com,out;", "~com 0+my", '~"my file" OBJECT,out;', "OBJECT,nul", "OBJECT,NUL.X,list", "OBJECT,nul:", "OBJECT,out,NUL:", "OBJECT,,con:", "OBJECT,,,nul:", "OBJECT,,,,nul:",
+    "OBJECT,out,prn:", "OBJECT,com1:", "OBJECT,,Lpt2:x", "OBJECT,,nul:.x", "OBJECT,,nul.x:", "OBJECT,x:nul", "OBJECT,,con.x:y", ",,,x.lib;", "OBJECT,,list.", "OBJECT,x\\y,", "OBJECT (x+y)",
     "OBJECT,out /l", "OBJECT,out,list/LI/s/l", "OBJECT /l /s", '"', '"OBJECT" "', "OBJECT,con", "OBJECT,CON.MAP", "OBJECT,,con", "OBJECT,com4",
     "OBJECT,com5", "OBJECT,,lpt4", "OBJECT,nul.", "OBJECT,out,list;;+ \n", "OBJECT \n;", "x@y,out", "OBJECT,out,@x", "OBJECT,@",
     ";", "", ",prog", "/c", "OBJECT,a b", "OBJECT,,a b", "OBJECT,,,,nul,x", "OBJECT;x", "OBJECT;,x", "OBJECT,prn",
@@ -68,7 +70,8 @@ LINES_OF_TLINK = [
     "OBJECT /Lc:\\tc\\lib/c;", "OBJECT /jx/Lc:\\tc,,,l", "OBJECT /Lx/q,,,l", "OBJECT /Lx,,,l"]
 # lines by which marks, blanks and options that are switched off show; of each linker, and of TLINK alone
 MARKED_LINES = [
-    "OBJECT+,\nlist", "OBJECT +,out,\nnul", "OBJECT\f/e\f,\fout", "OBJECT\t,\tout\t", "OBJECT\tsub\\a,out",
+    "OBJECT+,\nlist", "OBJECT +,out,\nnul", "OBJECT,\nout,\nlist,\n;", "OBJECT,\n\nlist", "OBJECT,out,\r\nlist\r\n", "OBJECT,/e\nout",
+    "OBJECT /e\nout,\n", "OBJECT+ /e\n;", "OBJECT,\n,\nlist", "OBJECT,out,list,,\nnul", "/e+\nOBJECT", "OBJECT\f/e\f,\fout", "OBJECT\t,\tout\t", "OBJECT\tsub\\a,out",
     '0"sub\\a",out', 'OBJECT"', 'OBJECT,out"list"', "OBJECT+sub\\a,out,list", "OBJECT,out,list/m", "OBJECT,,,,nul",
     "OBJECT,,,,NUL.DEF", "OBJECT,prn.x", "OBJECT,,con.map", "OBJECT,out,,\\+x", "OBJECT,aux,list", "OBJECT,out,lpt1",
     "OBJECT,out\f;", "~\f0\f", "OBJECT,out\r,list\r", "~0\f/e", 'OBJECT;"a\tb"', "OBJECT;a\\b",
@@ -119,6 +122,13 @@ def in_another_case(random, path):
     changes = [str.upper, str.lower, str.swapcase, lambda letter: random.choice([letter, letter.swapcase()])]
     change = random.choice(changes)
     return "".join(map(change, path))
+
+
+def by_dos(random, path, in_any_case=True):
+    """A path as it is, or in another case where that may be, or with folders of DOS."""
+    if in_any_case and random.random() < 0.1:
+        path = in_another_case(random, path)
+    return path.replace("/", "\\") if random.random() < 0.1 else path
 
 
 class LineSpeller:
@@ -196,10 +206,8 @@ class LineSpeller:
         return f'"{name}"' if self.happens(0.1) else name
 
     def spelling(self, path):
-        """A path as it is, or in another case, or with folders of DOS."""
-        if self.happens(0.1):
-            path = in_another_case(self.random, path)
-        return path.replace("/", "\\") if self.happens(0.1) else path
+        """A path by a name of DOS."""
+        return by_dos(self.random, path)
 
     def joined(self, fields):
         """Names with signs between them; a `;` may stand behind them."""
@@ -208,7 +216,7 @@ class LineSpeller:
             parts.append(" ".join(names) if number else self.plus(names))
         text = ""
         for number, part in enumerate(parts):
-            text += (self.between() if number else "") + part
+            text += (self.between(text.endswith(tuple(", "))) if number else "") + part
         return text + self.random.choice(["", ";", ";", " ;", ";\n"])
 
     def plus(self, names):
@@ -218,8 +226,9 @@ class LineSpeller:
             text += (self.random.choice([" ", "+", " + ", "  ", "+\n", " +\n "]) if number else "") + name
         return text
 
-    def between(self):
-        return self.random.choice([",", ",", ", ", " , ", "\n"])
+    def between(self, is_behind_comma):
+        """What stands between fields; a line's end is nothing behind a comma."""
+        return self.random.choice([",", ",", ", ", " , ", "," if is_behind_comma else "\n"])
 
     # ---- options
 

@@ -22,7 +22,7 @@ LONGEST_NAME = 255
 # how many response files a line has at most
 MOST_FILES = 200
 # what is put behind the path of a file of directives, and what such a file ends at
-ENDING, END = ".lnk", "\x1a"
+ENDING, END = ".lnk", b"\x1a"
 TOO_MANY = f"a line has at most {MOST_FILES} response files"
 # the end of the memory that a real-mode address reaches
 MEMORY_END = 0x100000
@@ -80,8 +80,6 @@ class Job:
     stack: Optional[Stack] = None
     # None is an EXE file that nobody asked for
     form: Optional[Form] = None
-    # whether directives ask for it
-    by_directives: bool = False
     is_verbose: bool = False
     is_quiet: bool = False
     # the map is asked for, by no name of its own
@@ -271,7 +269,9 @@ def read_libraries(job, tokens, line):
 
 
 def read_folders(job, tokens, line):
-    job.folders += names(tokens)
+    """Folders of libraries, with semicolons between those of one name."""
+    for each in names(tokens):
+        job.folders += each.split(";")
 
 
 def read_object_folders(job, tokens, line):
@@ -485,7 +485,7 @@ LEFT_OUT = {
     "symfile": "no file of symbols is written",
     "verbose": NO_EFFECT, "statics": NO_EFFECT, "artificial": NO_EFFECT, "showdead": NO_EFFECT,
     "cache": NO_EFFECT, "nocache": NO_EFFECT, "farcalls": NO_EFFECT, "nofarcalls": NO_EFFECT,
-    "maxerrors": NO_EFFECT,
+    "maxerrors": NO_EFFECT, "mangled": NO_EFFECT,
 }
 
 
@@ -493,6 +493,7 @@ LEFT_OUT = {
 SHORTER = {
     "quiet": 1, "map": 1, "stack": 2, "start": 4, "dosseg": 3, "caseexact": 1, "nodefaultlibs": 3, "symfile": 4,
     "verbose": 1, "statics": 4, "artificial": 3, "showdead": 3, "maxerrors": 4,
+    "mangled": 3,
 }
 OPTIONS = {each: SHORTER.get(each, len(each)) for each in ("map", "stack", "start", *SWITCHES, *LEFT_OUT)}
 
@@ -532,11 +533,11 @@ def lines_of(text, path=None):
 
 
 def text_of(path, files):
-    """The text of a response file."""
+    """The text of a response file: what stands in it up to a Ctrl-Z."""
     if files.get(path) is None:
         raise Unread(path, False)
     try:
-        return files[path].decode()
+        return files[path].partition(END)[0].decode()
     except UnicodeDecodeError:
         raise Unread(path, True) from None
 
@@ -550,7 +551,7 @@ def path_of(word, files):
 
 
 def spoken(words, files):
-    """The lines that words give: those of a file up to a Ctrl-Z where a word begins with `@`, else its own.
+    """The lines that words give: those of a file where a word begins with `@`, else its own.
 
     They name so many files at most.
     """
@@ -560,7 +561,7 @@ def spoken(words, files):
         raise DirectiveFault(0, f"{behind[0]}: {TOO_MANY}")
     for word in words:
         if word.startswith("@"):
-            lines += lines_of(text_of(path_of(word, files), files).partition(END)[0], word[1:])
+            lines += lines_of(text_of(path_of(word, files), files), word[1:])
         else:
             lines += lines_of(word)
     return lines
@@ -568,7 +569,7 @@ def spoken(words, files):
 
 def read_directives(lines):
     """The job of directives, or the first that is at fault; but a quote that isn't closed is told first."""
-    job = Job(packs_far_data=True, has_null_bytes=False, by_directives=True)
+    job = Job(packs_far_data=True, has_null_bytes=False)
     tokens, place = [], 0
     for line in lines:
         tokens += tokens_of(line)

@@ -2,10 +2,11 @@
 
 # the types of the first record of a module: THEADR and LHEADR
 HEADERS = (b"\x80", b"\x82")
-# what files of other kinds begin with: processors of COFF, words of Mach-O
+# what files of other kinds begin with: processors of COFF, words of Mach-O in both orders and of a fat one
 ELF, PROGRAM, THIN_ARCHIVE = b"\x7FELF", b"MZ", b"!<thin>"
 COFF = (b"\x4C\x01", b"\x64\x86")
-MACH_O = (b"\xCE\xFA\xED\xFE", b"\xCF\xFA\xED\xFE")
+MACH_O = (
+    b"\xCE\xFA\xED\xFE", b"\xCF\xFA\xED\xFE", b"\xFE\xED\xFA\xCE", b"\xFE\xED\xFA\xCF", b"\xCA\xFE\xBA\xBE")
 # the bytes that tell whether a file is a text, and those below a space that a text may have
 LOOKED_AT, OF_TEXTS, DELETE = 256, b"\t\n\f\r\x1A", 0x7F
 

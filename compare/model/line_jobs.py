@@ -63,7 +63,7 @@ def text_of(language, words, files, variable=""):
     read = []
     configuration = [FRONTS[language]] if language == lines.TLINK and is_there(FRONTS[language], files) else []
     if language == lines.TLINK:
-        front = "".join(lines.up_to_end(text_of_path(path, files)) for path in configuration)
+        front = "".join(text_of_path(path, files) for path in configuration)
     else:
         front = with_all_files(language, "" if is_call(variable) else variable, files, read)
     text = with_all_files(language, "".join(as_typed(word) + " " for word in words), files, read)

@@ -98,6 +98,11 @@ def no_program_of_faults(said, value, place):
         raise Wrong(NO_NOEXE)
 
 
+def in_dosseg_order(said, value, place):
+    """With null bytes, unless an option in front of it or behind it asks for none."""
+    said.order = said.order or "dosseg"
+
+
 def leave_out_defaults(said, value, place):
     """All libraries that only modules name, or the one of this name."""
     if value is None:
@@ -127,7 +132,7 @@ LINK = [
     ("Q[UICKLIBRARY]", NO_VALUE, refuses(REFUSED)),
     ("CO[DEVIEW]", NO_VALUE, warns(DEBUG)),
     ("CP[ARMAXALLOC]", VALUE, set_most_extra),
-    ("DO[SSEG]", NO_VALUE, sets(order="dosseg")),
+    ("DO[SSEG]", NO_VALUE, in_dosseg_order),
     ("NON[ULLSDOSSEG]", NO_VALUE, sets(order="dosseg-nonulls")),
     ("DS[ALLOCATE]", NO_VALUE, refuses(REFUSED)), ("HI[GH]", NO_VALUE, refuses(REFUSED)),
     ("NOG[ROUPASSOCIATION]", NO_VALUE, refuses(REFUSED)),
@@ -143,7 +148,7 @@ LINK = [
     ("NOP[ACKCODE]", NO_VALUE, nothing),
     ("PACKF[UNCTIONS]", NO_VALUE, warns(NOTHING)), ("NOPACKF[UNCTIONS]", NO_VALUE, nothing),
     ("PC[ODE]", NO_VALUE, refuses(P_CODE)), ("ON[ERROR]", VALUE, no_program_of_faults),
-    ("LI[NENUMBERS]", NO_VALUE, sets(has_lines=True)),
+    ("L[INENUMBERS]", NO_VALUE, sets(has_lines=True)),
     ("M[AP]", EITHER, map_of_publics),
     ("NOD[EFAULTLIBRARYSEARCH]", EITHER, leave_out_defaults),
     ("NOE[XTDICTIONARY]", NO_VALUE, nothing),

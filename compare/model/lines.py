@@ -16,7 +16,6 @@ NO_OBJECT, SECOND_NAME, TOO_MANY_FIELDS = "NoObject", "SecondName", "TooManyFiel
 BEHIND_END, UNCLOSED, RESPONSE = "BehindEnd", "UnclosedQuote", "Response"
 DEVICE, DEFINITIONS, TWO_WAYS, NO_OPTION = "Device", "Definitions", "TwoWays", "NoOption"
 OBJECTS, PROGRAM, MAP, LIBRARIES, DEFINED, ENDED = range(6)
-END_OF_TEXT = "\x1A"
 # blanks, and what else parts words
 BLANKS, MARKS = " \t\f\r", "+,;\n"
 NO_FILE = "nul"
@@ -79,15 +78,9 @@ class Token:
     place: int
 
 
-def up_to_end(text):
-    """A text up to Ctrl-Z."""
-    return text.partition(END_OF_TEXT)[0]
-
-
 def text_of_file(text):
-    """What stands in the place of a response file's name: its lines, up to Ctrl-Z, without the end
-    of the last one."""
-    return up_to_end(text).removesuffix("\n")
+    """What stands in the place of a response file's name: its lines, without the end of the last one."""
+    return text.removesuffix("\n")
 
 
 def tokens(language, text):
@@ -176,8 +169,8 @@ def cut_begun(language, word):
 
 
 def base(name):
-    """A name without extensions, in small letters."""
-    return name.partition(".")[0].lower()
+    """A name without extensions, and without the colon behind a device, in small letters."""
+    return name.partition(".")[0].partition(":")[0].lower()
 
 
 def refuse_device(name):
@@ -197,7 +190,7 @@ class Reader:
         self.place = 0
         self.said = Said(makes_map=language == TLINK)
         self.field = OBJECTS
-        # whether `+` stood last, so that a line goes on
+        # whether `+` or a comma stood last, so that a line goes on
         self.goes_on = False
 
     def read(self):
@@ -242,11 +235,10 @@ class Reader:
         elif token.kind == "unclosed":
             raise Wrong(UNCLOSED)
         else:
-            self.goes_on = False
             self.read_word(token)
 
     def end_line(self):
-        """The next comma; but nothing behind `+`, or while no object is named."""
+        """The next comma; but nothing behind `+` or a comma, or while no object is named."""
         if not self.goes_on and (self.field != OBJECTS or self.said.inputs):
             self.field = min(self.field + 1, DEFINED)
         self.goes_on = False
@@ -256,7 +248,7 @@ class Reader:
         if self.field == DEFINED:
             raise Wrong(TOO_MANY_FIELDS)
         self.field += 1
-        self.goes_on = False
+        self.goes_on = True
         self.said.makes_map |= self.field == MAP
 
     def read_word(self, token):
@@ -276,6 +268,7 @@ class Reader:
             ask(self.said, value, self.place)
 
     def read_name(self, name):
+        self.goes_on = False
         [self.read_object, self.read_program, self.read_map, self.read_library,
          self.read_definitions][self.field](name)
 

@@ -13,6 +13,7 @@ from model import (
     communal, directives, faults, foreign, forms, image, libraries, line_jobs, line_numbers, lines, link_map,
     local, lowering, module, naming, ordering, printing, search, stack)
 from model.commands import Answer, Output
+from model.directives import Form
 from model.faults import Fault, escaped, printed_name
 from model.names import Names, wanting_places
 from model.places import DosFiles
@@ -27,13 +28,18 @@ IS_REACHED = "is far and reached by its offset alone: declare it near (NASM: com
 # what is put behind the name of a library that has no dot, in turn
 ENDINGS = ["", ".LIB", ".lib"]
 TYPE, BODY, DUPLICATE, NO_PROGRAM = 5, 6, 25, 67
-# endings of files of other forms, and what says each: an option, or directives
-OTHER_FORMS = {
-    "com": ("--form com", "format dos com"), "sys": ("--form sys", "output raw"),
-    "bin": ("--form bin", "output raw"), "img": ("--form bin", "output raw")}
-EXE_FORM = ("--form exe", "format dos exe")
-# the option that says it in a line
-COM_OPTION = {lines.LINK: "/T", lines.TLINK: "/t"}
+# what a program reads that is called so: directives, lines of LINK or TLINK, or words of its own
+DIRECTIVES = "wlink"
+CALLED = {"wlink": DIRECTIVES, "jwlink": DIRECTIVES, "link": lines.LINK, "tlink": lines.TLINK}
+# endings of files of other forms, and the kind of each
+OTHER_FORMS = {"com": "com", "sys": "sys", "bin": "bin", "img": "bin"}
+# what makes such a file: in words of its own, and in what a program reads
+OTHER_HELP = {"sys": "doslink --form sys makes a device driver", "bin": "doslink --form bin makes a raw image"}
+OWN_HELP = {
+    lines.LINK: {"com": "/T makes a .COM file"}, lines.TLINK: {"com": "/t makes a .COM file"},
+    DIRECTIVES: {"com": "format dos com makes a .COM file", "bin": "output raw makes a raw image"}}
+# how many folders of each kind are searched at most
+MOST_FOLDERS = 64
 # standard output as OUT or MAP, and a path that leads to it
 STANDARD_OUTPUT, OUTPUT_PATH = "-", "/dev/stdout"
 MARKS = [*ordering.BEGIN_MARKS, *ordering.END_MARKS]
@@ -82,10 +88,21 @@ def last_part(path):
     return re.split(r"[/\\:]", path)[-1]
 
 
+def language_of(called):
+    """What a program reads by its name, in any case and with .exe or without."""
+    return CALLED.get(called.lower().removesuffix(".exe"), PROGRAM)
+
+
 def other_form(path):
-    """What says the form of which a path has the ending: none of one that has another, or of no path."""
+    """The kind of the form of which a path has the ending: none of one that has another, or of no path."""
     last = last_part(path or "")
     return OTHER_FORMS.get(last.rpartition(".")[2].lower()) if "." in last else None
+
+
+def named_otherwise(path, language):
+    """A warning that an EXE file has the name of another form, by which of the program's words this is made."""
+    makes = {**OTHER_HELP, **OWN_HELP[language]}[other_form(path)]
+    return f"warning: {path}: an EXE file is written: {makes}"
 
 
 def with_ending(path, ending):
@@ -115,10 +132,14 @@ def whole_path(path, name, extension):
 
 
 def named_whole(job):
-    """A job of directives whose program has its name: one that is said has an extension, unless it is no file."""
+    """A job of directives whose program has its name: one that is said has an extension, or is that of the first file in a
+    folder alone, unless it is no file. It is an EXE file by any name where no form is said."""
     if job.out not in (None, STANDARD_OUTPUT):
-        kind = "exe" if job.form is None else job.form.kind
-        job.out = with_extension(job.out, forms.EXTENSIONS[kind].lower())
+        extension = forms.EXTENSIONS["exe" if job.form is None else job.form.kind].lower()
+        first = next((each.name for each in job.inputs if not each.is_library), STANDARD_OUTPUT)
+        name = "OUT" if last_part(first) == STANDARD_OUTPUT else last_part(first)
+        job.out = whole_path(job.out, with_ending(name, extension), extension)
+    job.form = job.form or Form("exe")
     return job
 
 
@@ -177,6 +198,7 @@ class Linking:
         self.place = getattr(files, "place", normpath)
         # and one of a file that is yet to be written
         self.becomes = getattr(files, "becomes", self.place)
+        self.is_told_by = getattr(files, "is_told_by", self.place)
         self.folders = folders
         self.can_be_made = can_be_made
         self.answer = answer
@@ -201,6 +223,7 @@ class Linking:
             raise Stop(WRONG_WORDS, faults.WORDS, ["no file is named to be linked"])
         self.check_form()
         self.check_output()
+        self.check_folders()
         self.read_given()
         self.search()
         while self.job.has_default_libraries and self.add_default_libraries():
@@ -239,8 +262,12 @@ class Linking:
     def paths_of_input(self, given):
         """Where what is named may be: a library in folders of its own, and a file in those of objects."""
         if given.is_library:
-            return library_paths(given.name, self.job.folders)
+            return library_paths(given.name, self.library_folders())
         return file_paths(given.name, self.job.object_folders)
+
+    def library_folders(self):
+        """The folders of libraries: those of the job, and behind them those of LIB."""
+        return [*self.job.folders, *self.folders]
 
     def read_paths(self):
         """The paths of the files that are read."""
@@ -288,7 +315,7 @@ class Linking:
 
     def add_default_library(self, name, word):
         try:
-            path = self.found(library_paths(name.decode(), [*self.job.folders, *self.folders]))
+            path = self.found(library_paths(name.decode(), self.library_folders()))
         except UnicodeDecodeError:
             path = None
         if path is None:
@@ -321,9 +348,8 @@ class Linking:
         """Where no form is said the program's name may not be that of another than an .EXE."""
         says = other_form(self.job.out)
         if self.job.form is None and says is not None:
-            own, exe = (words[self.job.by_directives] for words in (says, EXE_FORM))
             raise Stop(WRONG_WORDS, faults.OTHER_FORM, [
-                f"{self.job.out}: without a form an EXE file is written: say {own}, or {exe}"])
+                f"{self.job.out}: without a form an EXE file is written: say --form {says}, or --form exe"])
 
     def check_output(self):
         """What is linked is told on standard output: then neither the program nor the map is written there."""
@@ -331,6 +357,11 @@ class Linking:
             if self.job.is_verbose and path == STANDARD_OUTPUT:
                 raise Stop(WRONG_WORDS, faults.WRITTEN_TWICE, [
                     f"{path}: it would be the {what} and the list of what is linked"])
+
+    def check_folders(self):
+        """So many folders of libraries are searched, of modules, and of the environment."""
+        if max(map(len, [self.job.folders, self.job.object_folders, self.folders])) > MOST_FOLDERS:
+            raise Stop(WRONG_WORDS, faults.WORDS, [f"more than {MOST_FOLDERS} folders are to be searched"])
 
     def places(self):
         """The paths of the program and of the map, or None.
@@ -343,7 +374,7 @@ class Linking:
             first = min(self.job.inputs, key=lambda each: each.is_library)
             extension = forms.EXTENSIONS[forms.kind_of(self.job.form)]
             out = with_ending("OUT" if first.name == "-" else first.name, extension)
-        map_path = with_ending(out, ".MAP") if self.job.maps_to_out else self.job.map
+        map_path = with_ending("OUT" if out == STANDARD_OUTPUT else out, ".MAP") if self.job.maps_to_out else self.job.map
         self.check_place(out)
         if map_path is not None:
             self.check_place(map_path)
@@ -357,7 +388,7 @@ class Linking:
 
     def check_apart(self, path, other, what):
         """What is written to two paths is written to two files."""
-        if self.place(looked_path(path)) == self.place(looked_path(other)):
+        if self.is_told_by(looked_path(path)) == self.is_told_by(looked_path(other)):
             raise Stop(WRONG_WORDS, faults.WRITTEN_TWICE, [f"{path}: it would be {what}"])
 
     def check_place(self, path):
@@ -529,7 +560,7 @@ class Linking:
         has_header = forms.kind_of(self.job.form) == "exe"
         lacks = [
             (NO_START, has_header and all(each.start is None for each in program.modules)),
-            (NO_STACK, has_header and all(segment.kind != "stack" for segment in segments)),
+            (NO_STACK, has_header and not any(each.kind == "stack" and each.length for each in segments)),
             (NO_CODE, not any(data.stored for each in program.modules for data in each.data))]
         self.warnings += [
             f"{PROGRAM}: warning: {text}\n" for text, is_lacking in lacks if is_lacking]
@@ -566,9 +597,9 @@ class Linking:
         return fault
 
     def duplicates(self):
-        """A line for each name of which a second public is met, then: all modules that have it.
+        """A line for each name of which a second public is met, then: the modules that have it.
 
-        A local public's name is its module's own.
+        A local public's name is its module's own. So many modules are told at most, each as often as it has the name.
         """
         words, seconds = {}, []
         for owner, (handed, content) in enumerate(zip(self.handed, self.contents)):
@@ -578,7 +609,7 @@ class Linking:
                 if len(words[key]) == 2:
                     seconds.append((key, public.name))
         for key, name in seconds:
-            where = " and ".join(words[key])
+            where = " and ".join(told_at_most(words[key], self.job.is_verbose, ""))
             yield f"link: {DUPLICATE} DuplicatePublic {printed_name(name)} in {where}"
 
     def order_module(self, contents):
@@ -604,7 +635,7 @@ class Linking:
 
     def has_null_bytes(self):
         """Whether the order of DOSSEG has null bytes: a .COM file has none."""
-        return self.job.has_null_bytes and forms.kind_of(self.job.form) != "com"
+        return self.job.has_null_bytes and forms.kind_of(self.job.form) == "exe"
 
     def order(self):
         """The order asked for, or that of a comment, or that of meeting."""
@@ -663,10 +694,10 @@ def always(path):
 MOST_TOLD = 20
 
 
-def told_at_most(lines, tells_all):
+def told_at_most(lines, tells_all, front="and "):
     """The first lines, and how many more there are."""
     rest = len(lines) - MOST_TOLD
-    return lines if tells_all or rest <= 0 else [*lines[:MOST_TOLD], f"and {rest:,} more"]
+    return lines if tells_all or rest <= 0 else [*lines[:MOST_TOLD], f"{front}{rest:,} more"]
 
 
 def limited(lines, tells_all):
@@ -682,22 +713,26 @@ def told(lines):
 
 
 def link_by_directives(words, files, folders=(), can_be_made=always):
-    """The answer to directives.
+    """The answer to directives, whose names of files are those of DOS.
 
-    What is left out is told before all else, unless nothing is to be told but faults.
+    What is left out is told before all else, unless nothing is to be told but faults; then, in any case, that an EXE
+    file has the name of another form.
     """
+    files = DosFiles(files)
     try:
         spoken = directives.spoken(words, files)
-        job = named_whole(directives.read_directives(spoken))
+        job = directives.read_directives(spoken)
     except directives.DirectiveFault as fault:
         return Answer(WRONG_WORDS, error=told([fault.text]).encode(), fault=faults.WORDS)
     except directives.Unread as unread:
         return unread_answer(unread, files)
-    warnings = [f"warning: {place}: {text}" for place, text in job.warnings]
+    warnings = [] if job.is_quiet else [f"warning: {place}: {text}" for place, text in job.warnings]
+    misnamed = []
+    if job.form is None and other_form(job.out) is not None:
+        misnamed = [named_otherwise(job.out, DIRECTIVES)]
     spoken_files = [directives.path_of(word, files) for word in words if word.startswith("@")]
-    answer = link(job, files, folders, can_be_made, spoken_files)
-    if not job.is_quiet:
-        answer.error = told(told_at_most(warnings, False)).encode() + answer.error
+    answer = link_by_dos_names(named_whole(job), files, folders, can_be_made, spoken_files)
+    answer.error = told([*told_at_most(warnings, False), *misnamed]).encode() + answer.error
     return answer
 
 
@@ -715,10 +750,13 @@ def link_by_response(path, files, job_of, folders=(), can_be_made=always):
 def link_by_line(language, words, files, folders=(), can_be_made=always, variable=""):
     """The answer to the words of LINK or TLINK, whose names of files are those of DOS, and to the environment's LINK.
 
+    Its LIB is LINK's alone.
+
     What is left out is told before all else, then that an EXE file has the name of another form, and what the map
     hasn't.
     """
     files = DosFiles(files)
+    folders = () if language == lines.TLINK else folders
     try:
         front, text, spoken_files = line_jobs.text_of(language, words, files, variable)
         job = line_jobs.job_of(language, text, front)
@@ -730,11 +768,16 @@ def link_by_line(language, words, files, folders=(), can_be_made=always, variabl
     warnings = [f"warning: {place}: {what}" for place, what in job.warnings]
     lacks = [f"warning: the map {what}" for what in job.map_lacks]
     if job.form.kind == "exe" and other_form(job.out) is not None:
-        lacks.insert(0, f"warning: {job.out}: an EXE file is written: {COM_OPTION[language]} makes a .COM file")
-    answer = link(
-        whole_names(job, first), files, folders, lambda path: files.can_be_made(path, can_be_made), spoken_files)
-    answer.files = {files.meant(path): content for path, content in answer.files.items()}
+        lacks.insert(0, named_otherwise(job.out, language))
+    answer = link_by_dos_names(whole_names(job, first), files, folders, can_be_made, spoken_files)
     answer.error = told([*told_at_most(warnings, job.is_verbose), *lacks]).encode() + answer.error
+    return answer
+
+
+def link_by_dos_names(job, files, folders, can_be_made, also_read):
+    """The answer to a job over files by names of DOS; what is written has the system's names."""
+    answer = link(job, files, folders, lambda path: files.can_be_made(path, can_be_made), also_read)
+    answer.files = {files.meant(path): content for path, content in answer.files.items()}
     return answer
 
 
@@ -749,7 +792,7 @@ def unread_answer(unread, files):
 
 
 def link(job, files, folders=(), can_be_made=always, also_read=()):
-    """The answer to a job; folders are those in which only default libraries are looked for.
+    """The answer to a job; folders are those of LIB.
 
     Nothing is written before all is linked; then OUT is, then the map.
     """

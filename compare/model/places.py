@@ -138,6 +138,14 @@ class DosFiles:
         """Where a path leads to."""
         return normpath(self.meant(path) or path)
 
+    def is_told_by(self, path):
+        """What paths to one file have in common before it is written: of what isn't there yet the name behind the last `/`
+        counts as it is written."""
+        if self.get(path) is not None:
+            return self.place(path)
+        folder, _, name = path.rpartition("/")
+        return join(self.place(folder or HERE), name)
+
     def becomes(self, path):
         """What paths to one file have in common once it is written: what isn't there yet is one in whatever case."""
         folder, name = split(self.place(path))
