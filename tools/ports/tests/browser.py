@@ -36,12 +36,14 @@ LINES = {
     "It is a module or a library and would be written.": (
         "doslink: A.OBJ: it is a module or a library and would be written",),
     "Without a form an EXE file is written.": (
-        "doslink: A.COM: without a form an EXE file is written: say --form com, or --form exe",),
+        "doslink: A.COM: without a form an EXE file is written: say --form com, or --form exe",
+        "doslink: warning: A.COM: an EXE file is written: /T makes a .COM file"),
     "It would be the program and its map.": ("doslink: A.EXE: it would be the program and its map",),
     "It would be the program and the list of what is linked, or the map and the list.": (
         "doslink: -: it would be the program and the list of what is linked",
         "doslink: -: it would be the map and the list of what is linked"),
     "a line has at most 200 response files.": ("doslink: A.RSP: a line has at most 200 response files",),
+    "more than 64 folders are to be searched.": ("doslink: more than 64 folders are to be searched",),
     "A word of LINK or TLINK, told with line N, column N:": (
         'doslink: line 1, column 15: "/none": unknown option',
         "doslink: warning: line 1, column 3: no data for debuggers is written"),
