@@ -1260,8 +1260,8 @@ class JobMaker:
         return self.case([line], language)
 
     def make_map(self, form, option=None):
-        """A map in a form, of publics in groups, of absolute ones and of any; or, with line numbers, that of a line with
-        an option."""
+        """A map in a form, of publics in groups, of absolute ones and of any; or, with line numbers, that of a line
+        with an option."""
         self.folders, self.plan.wants_marks, self.plan.has_lines = [], 0.9, 0.2 if option is None else 0.9
         self.add_some_objects()
         names = [width * b"N" for width in (17, 18, 19, 22, 23, 40)]

@@ -36,17 +36,25 @@ WRONG_WORDS = {
 }
 # lines that are wrong, or seem so; `OBJECT` is that of the job, and behind `~` all is one word
 ODD_LINES = [
-    "/e\nOBJECT\nout", "/e /m\n\n OBJECT+\n\nout\n\n", "OBJECT\nout", "OBJECT\nout\n\n", "OBJECT\n\nlist", "OBJECT,,", "OBJECT,,;",
-    "OBJECT,", "OBJECT,;", "OBJECT\nout\n\nnul\n", "OBJECT,out,/m", "OBJECT,out,nul/m", "OBJECT /m", "OBJECT+\n/e\nout", "OBJECT +/e\nout",
-    "OBJECT,out.x.y", "OBJECT,,,sub\\ c:,nul", "OBJECT,,,sub/ x", "OBJECT,./out/e", "./0/e", "OBJECT,con.x;x", '"0/e"', "OBJECT,out.com", "OBJECT,out.bin", "OBJECT,more\\out", "OBJECT,,,nul",
+    "/e\nOBJECT\nout", "/e /m\n\n OBJECT+\n\nout\n\n", "OBJECT\nout", "OBJECT\nout\n\n", "OBJECT\n\nlist", "OBJECT,,",
+    "OBJECT,,;",
+    "OBJECT,", "OBJECT,;", "OBJECT\nout\n\nnul\n", "OBJECT,out,/m", "OBJECT,out,nul/m", "OBJECT /m", "OBJECT+\n/e\nout",
+    "OBJECT +/e\nout",
+    "OBJECT,out.x.y", "OBJECT,,,sub\\ c:,nul", "OBJECT,,,sub/ x", "OBJECT,./out/e", "./0/e", "OBJECT,con.x;x", '"0/e"',
+    "OBJECT,out.com", "OBJECT,out.bin", "OBJECT,more\\out", "OBJECT,,,nul",
     "sub/a;", '"sub\\a"', "sub/a.obj,,", "sub/a,sub/p", "com/t;", "com,prog/t", "com/t,prog.x",
-    "~my file", "~OBJECT out", "~OBJECT,my out;", "~0 com,out;", "~com 0+my", '~"my file" OBJECT,out;', "OBJECT,nul", "OBJECT,NUL.X,list", "OBJECT,nul:", "OBJECT,out,NUL:", "OBJECT,,con:", "OBJECT,,,nul:", "OBJECT,,,,nul:",
-    "OBJECT,out,prn:", "OBJECT,com1:", "OBJECT,,Lpt2:x", "OBJECT,,nul:.x", "OBJECT,,nul.x:", "OBJECT,x:nul", "OBJECT,,con.x:y", ",,,x.lib;", "OBJECT,,list.", "OBJECT,x\\y,", "OBJECT (x+y)",
-    "OBJECT,out /l", "OBJECT,out,list/LI/s/l", "OBJECT /l /s", '"', '"OBJECT" "', "OBJECT,con", "OBJECT,CON.MAP", "OBJECT,,con", "OBJECT,com4",
-    "OBJECT,com5", "OBJECT,,lpt4", "OBJECT,nul.", "OBJECT,out,list;;+ \n", "OBJECT \n;", "x@y,out", "OBJECT,out,@x", "OBJECT,@",
+    "~my file", "~OBJECT out", "~OBJECT,my out;", "~0 com,out;", "~com 0+my", '~"my file" OBJECT,out;', "OBJECT,nul",
+    "OBJECT,NUL.X,list", "OBJECT,nul:", "OBJECT,out,NUL:", "OBJECT,,con:", "OBJECT,,,nul:", "OBJECT,,,,nul:",
+    "OBJECT,out,prn:", "OBJECT,com1:", "OBJECT,,Lpt2:x", "OBJECT,,nul:.x", "OBJECT,,nul.x:", "OBJECT,x:nul",
+    "OBJECT,,con.x:y", ",,,x.lib;", "OBJECT,,list.", "OBJECT,x\\y,", "OBJECT (x+y)",
+    "OBJECT,out /l", "OBJECT,out,list/LI/s/l", "OBJECT /l /s", '"', '"OBJECT" "', "OBJECT,con", "OBJECT,CON.MAP",
+    "OBJECT,,con", "OBJECT,com4",
+    "OBJECT,com5", "OBJECT,,lpt4", "OBJECT,nul.", "OBJECT,out,list;;+ \n", "OBJECT \n;", "x@y,out", "OBJECT,out,@x",
+    "OBJECT,@",
     ";", "", ",prog", "/c", "OBJECT,a b", "OBJECT,,a b", "OBJECT,,,,nul,x", "OBJECT;x", "OBJECT;,x", "OBJECT,prn",
     "OBJECT,,aux", "OBJECT,com1", "OBJECT,com3,", "OBJECT,,LPT9.x", 'OBJECT,"prn"', "OBJECT,d:a", "c:OBJECT",
-    "OBJECT,,,,x.def", "OBJECT,,,,nowhere", "OBJECT,,,,nul nul nul", "OBJECT;;", "OBJECT;/c", 'OBJECT;"', "OBJECT\n\n\n\n\nx",
+    "OBJECT,,,,x.def", "OBJECT,,,,nowhere", "OBJECT,,,,nul nul nul", "OBJECT;;", "OBJECT;/c", 'OBJECT;"',
+    "OBJECT\n\n\n\n\nx",
     # folders in the place of files, files in that of folders, and names without a byte
     "sub", "OBJECT+sub+nowhere", '"sub/"', '"0.obj/"', "OBJECT,,,sub", "OBJECT,,,lib x/ nowhere/", "@sub", "@0.obj/x",
     "@", '""', 'OBJECT,,,""', "OBJECT,sub", "OBJECT,x.lib", "OBJECT,,x.lib", 'OBJECT,"sub/"', "OBJECT,0.obj/prog",
@@ -70,8 +78,10 @@ LINES_OF_TLINK = [
     "OBJECT /Lc:\\tc\\lib/c;", "OBJECT /jx/Lc:\\tc,,,l", "OBJECT /Lx/q,,,l", "OBJECT /Lx,,,l"]
 # lines by which marks, blanks and options that are switched off show; of each linker, and of TLINK alone
 MARKED_LINES = [
-    "OBJECT+,\nlist", "OBJECT +,out,\nnul", "OBJECT,\nout,\nlist,\n;", "OBJECT,\n\nlist", "OBJECT,out,\r\nlist\r\n", "OBJECT,/e\nout",
-    "OBJECT /e\nout,\n", "OBJECT+ /e\n;", "OBJECT,\n,\nlist", "OBJECT,out,list,,\nnul", "/e+\nOBJECT", "OBJECT\f/e\f,\fout", "OBJECT\t,\tout\t", "OBJECT\tsub\\a,out",
+    "OBJECT+,\nlist", "OBJECT +,out,\nnul", "OBJECT,\nout,\nlist,\n;", "OBJECT,\n\nlist", "OBJECT,out,\r\nlist\r\n",
+    "OBJECT,/e\nout",
+    "OBJECT /e\nout,\n", "OBJECT+ /e\n;", "OBJECT,\n,\nlist", "OBJECT,out,list,,\nnul", "/e+\nOBJECT",
+    "OBJECT\f/e\f,\fout", "OBJECT\t,\tout\t", "OBJECT\tsub\\a,out",
     '0"sub\\a",out', 'OBJECT"', 'OBJECT,out"list"', "OBJECT+sub\\a,out,list", "OBJECT,out,list/m", "OBJECT,,,,nul",
     "OBJECT,,,,NUL.DEF", "OBJECT,prn.x", "OBJECT,,con.map", "OBJECT,out,,\\+x", "OBJECT,aux,list", "OBJECT,out,lpt1",
     "OBJECT,out\f;", "~\f0\f", "OBJECT,out\r,list\r", "~0\f/e", 'OBJECT;"a\tb"', "OBJECT;a\\b",
@@ -158,7 +168,8 @@ class LineSpeller:
         return self.with_options(text, options)
 
     def with_front(self, options, objects):
-        """The options and the objects that don't stand in front of the line: options of either, objects of LINK alone."""
+        """The options and the objects that don't stand in front of the line: options of either, objects of LINK
+        alone."""
         count = self.random.randint(0, len(options))
         parts = options[:count] + [self.option(*self.random.choice(OTHER_OPTIONS[self.language]))]
         if self.language == LINK:

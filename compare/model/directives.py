@@ -50,8 +50,8 @@ class Stack:
 @dataclass
 class Form:
     """What the program's file is: "exe", "com", "bin" or "sys"; of a raw image its paragraph and
-    the address of its first byte; of an EXE file the paragraphs that it asks for at most behind its image, where that is
-    said."""
+    the address of its first byte; of an EXE file the paragraphs that it asks for at most behind its image, where that
+    is said."""
 
     kind: str
     paragraph: int = 0

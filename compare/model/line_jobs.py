@@ -55,8 +55,8 @@ class LineRefused(Exception):
 
 
 def text_of(language, words, files, variable=""):
-    """What stands in front of words, and their text, in both of which each response file stands in the place of its name;
-    and the files.
+    """What stands in front of words, and their text, in both of which each response file stands in the place of its
+    name; and the files.
 
     Response files may name others.
     """

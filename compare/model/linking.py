@@ -132,8 +132,8 @@ def whole_path(path, name, extension):
 
 
 def named_whole(job):
-    """A job of directives whose program has its name: one that is said has an extension, or is that of the first file in a
-    folder alone, unless it is no file. It is an EXE file by any name where no form is said."""
+    """A job of directives whose program has its name: one that is said has an extension, or is that of the first file
+    in a folder alone, unless it is no file. It is an EXE file by any name where no form is said."""
     if job.out not in (None, STANDARD_OUTPUT):
         extension = forms.EXTENSIONS["exe" if job.form is None else job.form.kind].lower()
         first = next((each.name for each in job.inputs if not each.is_library), STANDARD_OUTPUT)
@@ -374,7 +374,9 @@ class Linking:
             first = min(self.job.inputs, key=lambda each: each.is_library)
             extension = forms.EXTENSIONS[forms.kind_of(self.job.form)]
             out = with_ending("OUT" if first.name == "-" else first.name, extension)
-        map_path = with_ending("OUT" if out == STANDARD_OUTPUT else out, ".MAP") if self.job.maps_to_out else self.job.map
+        map_path = self.job.map
+        if self.job.maps_to_out:
+            map_path = with_ending("OUT" if out == STANDARD_OUTPUT else out, ".MAP")
         self.check_place(out)
         if map_path is not None:
             self.check_place(map_path)
