@@ -116,6 +116,13 @@ MAIN_ASM = b"extern print\nsegment code class=CODE\n..start: call print\n"
 COM_ASM = b"segment code class=CODE\nresb 100h\n..start: ret\n"
 BOOT_ASM = b"segment code class=CODE\n..start: jmp $\ntimes 510-($-$$) db 0\ndw 0xAA55\n"
 SOURCES = {"PRINT.ASM": PRINT_ASM, "PUT.ASM": PUT_ASM, "MAIN.ASM": MAIN_ASM}
+# a makefile that has its linkers in variables, and what it links; it fails where a program isn't there then
+PUTS = module(b"puts", publics(b"_puts"))
+OLD_MAKEFILE = {
+    "Makefile": b"all: BIG.EXE SMALL.EXE\n\ttest -s BIG.EXE -a -s BIG.MAP -a -s SMALL.EXE\n"
+                b"BIG.EXE: MAIN.OBJ PUTS.OBJ\n\t$(LINK) MAIN+PUTS,$@,BIG.MAP,CLIB;\n"
+                b"SMALL.EXE: MAIN.OBJ\n\t$(TLINK) /x main, $@, , clib\n",
+    "MAIN.OBJ": HELLO, "PUTS.OBJ": PUTS, "CLIB.LIB": CLIB}
 
 # names that are missing: one that is like another, and many of them
 MISSES = placed(b"main.c", {145: externals(b"_prinft")})
@@ -164,8 +171,7 @@ SPACE = record(THEADR, name(b"main.c")) + names(b"", b"BSS") + segment(0x28, 4, 
 FREE_PASCAL = Untried("Free Pascal's compiler for DOS isn't at hand: tools/client/run builds it, and links by it")
 SHOWN = {
     "README.md": {
-        "./install PREFIX                # programs (PREFIX/bin), man pages, documents, examples": Untried(
-            "tools/tests/run tries it"),
+        "./install PREFIX                # programs (PREFIX/bin), man pages, documents, examples": Run(),
         "mkdir -p out && ./omf link -o out/HELLO.EXE -m out/HELLO.MAP examples/hello/HELLO.OBJ": Run(),
         "segments": Shown("cat out/HELLO.MAP"),
         "./omf show examples/hello/HELLO.OBJ": Then(),
@@ -179,7 +185,7 @@ SHOWN = {
         "doslink -o A.EXE -L watcom/lib286/dos -L watcom/lib286 A.OBJ": Run({"A.OBJ": FOR_WATCOM, **WATCOM}),
         "fpc -Tmsdos -Pi8086 -Wmlarge -Xe -FDPREFIX/share/omf/bin A.PAS": FREE_PASCAL,
         "OBJECTS = MAIN.OBJ PRINT.OBJ PUT.OBJ": Written("Makefile", "make", SOURCES, ("make", "nasm")),
-        'make LINK="doslink --as link" TLINK="doslink --as tlink"': Untried("there is no makefile"),
+        'make LINK="doslink --as link" TLINK="doslink --as tlink"': Run(OLD_MAKEFILE, ("make",)),
         'doslink: MAIN.OBJ: "_prinft" is missing: record 145 (00000091), wanted by "main.c"': Lines((
             Said("doslink MAIN.OBJ", 1, {"MAIN.OBJ": MISSES}),
             Said("doslink PRINT.OBJ", 1, {"PRINT.OBJ": WITH_COMDAT}))),
@@ -211,15 +217,16 @@ SHOWN = {
         "doslink -o HELLO.EXE -L MSC/LIB HELLO.OBJ": Run({"HELLO.OBJ": FOR_MICROSOFT, **MICROSOFT_C}),
         "doslink -o HELLO.EXE -L watcom/lib286/dos -L watcom/lib286 HELLO.OBJ": Run(
             {"HELLO.OBJ": FOR_WATCOM, **WATCOM}),
-        'make LINK="doslink --as link" TLINK="doslink --as tlink"': Untried("there is no makefile"),
+        'make LINK="doslink --as link" TLINK="doslink --as tlink"': Run(OLD_MAKEFILE, ("make",)),
         "doslink --as link /NOD 'MAIN+PRINT,MAIN,MAIN,CLIB;'": Run({
             "MAIN.OBJ": START_UP, "PRINT.OBJ": HELLO, "CLIB.LIB": CLIB}),
         "doslink [-o OUT] [-m MAP] [--map-form NAME] [-L FOLDER].. [-l LIB].. [--ignore-case] [--order ORDER]": Untried(
             "tools/lists holds it against help"),
         "nasm -f obj HELLO.ASM -o HELLO.OBJ && doslink --form com HELLO.OBJ": Run(
             {"HELLO.ASM": COM_ASM, "BOOT.ASM": BOOT_ASM}, ("nasm",)),
-        "tlink /c /x c0s main util, prog.exe, prog.map, emu maths cs": Untried(
-            "the names link and tlink aren't there: crates/jobs_tests tries lines by them"),
+        "tlink /c /x c0s main util, prog.exe, prog.map, emu maths cs": Run({
+            "c0s.obj": START_UP, "main.obj": HELLO, "util.obj": PUTS, "cs.lib": CLIB, "slibce.lib": CLIB,
+            "emu.lib": library(16, module(b"emu")), "maths.lib": library(16, module(b"maths"))}),
         'doslink: line 1, column 6: "/z": unknown option': Lines((
             Said("doslink --as link 'MAIN /z;'", 2, {"MAIN.OBJ": EMPTY}),)),
         'doslink: TLINK.CFG: line 2, column 1: "/z": unknown option': Lines((
