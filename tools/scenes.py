@@ -130,7 +130,8 @@ WANTS_PRINT = module(b"main.c", externals(b"print"), uses(1))
 # members that doslib tells of, and one that has a wrong closing byte in its record at 1060
 TOLD = library(
     512, filled(module(b"puts", publics(b"_puts"), externals(b"_write")), 345),
-    filled(module(b"printf", publics(b"_printf"), near(b"_errno", 2), externals(b"_puts"), comment(0x9F, b"EMU")), 1024))
+    filled(
+        module(b"printf", publics(b"_printf"), near(b"_errno", 2), externals(b"_puts"), comment(0x9F, b"EMU")), 1024))
 CUT_IN_TWO = TOLD[:1024] + module(b"sprintf", publics(b"_sprintf")[:-1] + b"\1")
 # the table of symbols of an archive: one name, whose member's header stands behind the table's 14 bytes
 OF_ELF = archive(

@@ -232,8 +232,8 @@ def worked_page(statement):
     """The page of the examples that Worked.antt of some crates, or of their tests, has the checker evaluate."""
     lines = ["# Worked examples", ""]
     lines += wrapped(
-        "Bodies, programs, fix-ups and a file, with the numbers that the definitions give for them. The checker evaluates "
-        "each line with `≡` that `refl` proves, and refuses another number. [README.md](README.md) says how to read "
+        "Bodies, programs, fix-ups and a file, with the numbers that the definitions give for them. The checker "
+        "evaluates each line with `≡` that `refl` proves, and refuses another number. [README.md](README.md) says how to read "
         "them; `tools/definitions --write` makes this page.")
     root = statement.repository.root
     for crate in statement.crates:
