@@ -1,6 +1,6 @@
 -- What counts from the group FLAT, which stands for all memory from 0 on in protected mode (TIS OMF 1.1, "Group
 -- Definition Record", the pseudogroup FLAT). To define it says nothing: what names it does.
-use Rattle.std.specs.Prelude.{ℕ, zero, suc, ◌/◌, ◌%◌, ◌==◌, ◌&&◌, ◌||◌, Bool, false, if◌then◌else◌, nat_lt, List, []}
+use Rattle.std.specs.Prelude.{ℕ, zero, suc, ◌/◌, ◌%◌, ◌==◌, ◌&&◌, ◌||◌, Bool, false, not, if◌then◌else◌, nat_lt, List, []}
 use Rattle.std.specs.Prelude.{◌∷◌, codes, slice_index_or, None}
 use Rattle.std.specs.declared.option.Option.{Option}
 use Rattle.std.specs.Option.{option_map, option_map_or}
@@ -60,16 +60,18 @@ abbrev pub fixup_is_flat : List Bool → List ℕ → Bool
 fixup_is_flat groups (low ∷ fix_data ∷ bytes) = reference_is_flat groups fix_data bytes
 fixup_is_flat groups _ = false
 
--- a subrecord with this first byte, which is a thread below 80H, is FLAT
-abbrev pub subrecord_is_flat : List Bool → ℕ → List ℕ → Bool
-subrecord_is_flat groups first bytes =
-    if nat_lt first 128 then is_group_thread first && front_is_flat groups bytes else fixup_is_flat groups bytes
+-- A subrecord with this first byte, which is a thread below 80H, is FLAT. Threads stay where the data in front of them is
+-- kept out, since later fix-ups may use them, and fix-ups are dropped with it.
+abbrev pub subrecord_is_flat : List Bool → (dropped : Bool) → ℕ → List ℕ → Bool
+subrecord_is_flat groups dropped first bytes =
+    if nat_lt first 128 then is_group_thread first && front_is_flat groups bytes
+    else not dropped && fixup_is_flat groups bytes
 
 -- whether the subrecord at the front is, and the bytes behind it
-unfoldable pub flat_front : List Bool → ℕ → List ℕ → Option (Bool × List ℕ)
-flat_front groups width [] = None
-flat_front groups width (first ∷ bytes) =
-    option_map (λ rest. (subrecord_is_flat groups first bytes, rest)) (behind_subrecord width first bytes)
+unfoldable pub flat_front : List Bool → (dropped : Bool) → ℕ → List ℕ → Option (Bool × List ℕ)
+flat_front groups dropped width [] = None
+flat_front groups dropped width (first ∷ bytes) =
+    option_map (λ rest. (subrecord_is_flat groups dropped first bytes, rest)) (behind_subrecord width first bytes)
 
 -- the start of 8AH and 8BH MODEND is: bit 6 of its first byte tells that there is one, and a fix data byte is next
 abbrev pub start_is_flat : List Bool → List ℕ → Bool

@@ -1,5 +1,5 @@
 -- What is written for a record of a module.
-use Rattle.std.specs.Prelude.{ℕ, ◌/◌, ◌%◌, ◌==◌, ◌&&◌, ◌||◌, Bool, false, not, if◌then◌else◌, nat_lt, List, [], ◌∷◌}
+use Rattle.std.specs.Prelude.{ℕ, ◌/◌, ◌%◌, ◌==◌, ◌&&◌, ◌||◌, Bool, if◌then◌else◌, nat_lt, List, [], ◌∷◌}
 use Rattle.std.specs.Prelude.{◌++◌, length, slice_range, Some, None, Ok, Err}
 use Rattle.std.specs.declared.option.Option.{Option}
 use Rattle.std.specs.declared.result.Result.{Result}
@@ -19,7 +19,7 @@ use Rattle.omf_lower.specs.Segments.{definition, segment_recipe}
 use Rattle.omf_lower.specs.Comments.{for_comment}
 use Rattle.omf_lower.specs.Externals.{communal_front, renamed_communal_front, named_front, renamed_front, alias_front}
 use Rattle.omf_lower.specs.Externals.{alias_pair_front}
-use Rattle.omf_lower.specs.Flat.{flat_front, start_is_flat}
+use Rattle.omf_lower.specs.Flat.{flat_front, front_is_flat, start_is_flat}
 use Rattle.omf_lower.specs.Narrow.{public_front, line_front, block_front}
 use Rattle.omf_lower.specs.Data.{Data, is_data}
 use Rattle.omf_lower.specs.Fixups.{Reference, reference_front, narrowed, threads_front, fixups_front}
@@ -128,13 +128,17 @@ recipe_by_type lowering seen f =
     else if f.kind == 0x9D then for_fixups seen.dropped seen.last 4 0x9D f.body
     else for_other seen.renaming seen.names f.kind f.body
 
--- the group FLAT is named by a start, or by a fix-up or a thread behind data that is kept
+-- a record of public names: 90H and 91H PUBDEF, B6H and B7H LPUBDEF, which begin with the index of their base group
+abbrev pub names_publics : ℕ → Bool
+names_publics kind = (kind == 0x90) || (kind == 0x91) || (kind == 0xB6) || (kind == 0xB7)
+
+-- the group FLAT is named: as the base of public names, by a start, by a thread, or by a fix-up of data that is kept
 abbrev pub names_flat : Seen → Frame → Bool
 names_flat seen f =
-    if f.kind == 0x9C then not seen.dropped && any_entry (flat_front seen.flat 2) f.body
-    else if f.kind == 0x9D then not seen.dropped && any_entry (flat_front seen.flat 4) f.body
+    if f.kind == 0x9C then any_entry (flat_front seen.flat seen.dropped 2) f.body
+    else if f.kind == 0x9D then any_entry (flat_front seen.flat seen.dropped 4) f.body
     else if (f.kind == 0x8A) || (f.kind == 0x8B) then start_is_flat seen.flat f.body
-    else false
+    else names_publics f.kind && front_is_flat seen.flat f.body
 
 -- what is written for a record; none, where it stays
 unfoldable pub recipe_for : Lowering → Seen → Frame → Result (Option Recipe) Obstacle

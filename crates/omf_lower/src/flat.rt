@@ -32,8 +32,8 @@ fn is_flat(groups: &[bool], group: u16) -> bool
     groups.get(usize::from(group) - 1).copied().unwrap_or(false)
 }
 
-/// Whether the index at the front is that of FLAT.
-fn front_is_flat(groups: &[bool], bytes: &[u8]) -> bool
+/// Whether the index at the front is that of FLAT: of the body of a PUBDEF that of its base group.
+pub(crate) fn front_is_flat(groups: &[bool], bytes: &[u8]) -> bool
     ensures { result ≡ spec.front_is_flat groups.now bytes.now }
 {
     match take_index(bytes) {
@@ -98,37 +98,43 @@ fn fixup_is_flat(groups: &[bool], bytes: &[u8]) -> bool
     }
 }
 
-/// Whether a subrecord with this first byte is FLAT.
-fn subrecord_is_flat(groups: &[bool], first: u8, bytes: &[u8]) -> bool
-    ensures { result ≡ spec.subrecord_is_flat groups.now first bytes.now }
+/// Whether a subrecord with this first byte is FLAT: a thread always, and a fix-up where it isn't dropped.
+fn subrecord_is_flat(groups: &[bool], dropped: bool, first: u8, bytes: &[u8]) -> bool
+    ensures { result ≡ spec.subrecord_is_flat groups.now dropped first bytes.now }
 {
     if first < 128 {
         is_group_thread(first) && front_is_flat(groups, bytes)
     } else {
-        fixup_is_flat(groups, bytes)
+        !dropped && fixup_is_flat(groups, bytes)
     }
 }
 
 /// Whether the subrecord at the front is, whose displacement has so many bytes, and the bytes behind it. None where
 /// none is there.
 #[tactic(auto, unfolding(crate::specs::Flat::flat_front))]
-fn take_flat<'a>(groups: &[bool], width: usize, bytes: &'a [u8]) -> Option<(bool, &'a [u8])>
-    ensures said { change_said result ≡ spec.flat_front groups.now width bytes.now }
+fn take_flat<'a>(
+    groups: &[bool],
+    dropped: bool,
+    width: usize,
+    bytes: &'a [u8],
+) -> Option<(bool, &'a [u8])>
+    ensures said { change_said result ≡ spec.flat_front groups.now dropped width bytes.now }
     ensures shorter { IfSome result (λ x. length x.1.now < length bytes.now) }
 {
     let [first, rest @ ..] = bytes else {
         return None;
     };
     let after = behind_subrecord(width, *first, rest)?;
-    Some((subrecord_is_flat(groups, *first, rest), after))
+    let is_flat = subrecord_is_flat(groups, dropped, *first, rest);
+    Some((is_flat, after))
 }
 
-/// Whether one of some subrecords is, before what isn't one.
-pub(crate) fn has_flat(groups: &[bool], width: usize, bytes: &[u8]) -> bool
-    ensures { result ≡ any_entry (spec.flat_front groups.now width) bytes.now }
+/// Whether one of some subrecords is, before what isn't one; of those that are dropped a thread.
+pub(crate) fn has_flat(groups: &[bool], dropped: bool, width: usize, bytes: &[u8]) -> bool
+    ensures { result ≡ any_entry (spec.flat_front groups.now dropped width) bytes.now }
 {
     let mut rest = bytes;
-    while let Some((is_flat, after)) = take_flat(groups, width, rest) {
+    while let Some((is_flat, after)) = take_flat(groups, dropped, width, rest) {
         if is_flat {
             return true;
         }

@@ -18,7 +18,7 @@ use crate::externals::has_alias;
 use crate::fault::{Obstacle, RecordFault};
 use crate::fields::{before, narrow};
 use crate::fixups::{Reference, has_wide, narrowed, take_reference};
-use crate::flat::{has_flat, start_is_flat};
+use crate::flat::{front_is_flat, has_flat, start_is_flat};
 use crate::lowering::Lowering;
 use crate::recipe::{Content, Recipe, empty_comment, made, of_bytes};
 use crate::seen::{Seen, is_of_kept_out};
@@ -242,14 +242,16 @@ fn recipe_by_type<'a, A: Allocator + Copy>(
     }
 }
 
-/// Whether the group FLAT is named by a start, or by a fix-up or a thread behind data that is kept.
+/// Whether the group FLAT is named: as the base of public names, by a start, by a thread, or by a fix-up of data that is
+/// kept.
 fn names_flat<A: Allocator + Copy>(seen: &Seen<'_, A>, frame: &Frame<'_>) -> bool
     ensures { result ≡ records.names_flat (seen_view seen.now) (plain_frame frame.now) }
 {
     match frame.kind {
-        0x9C => !seen.dropped && has_flat(&seen.flat, 2, frame.body),
-        0x9D => !seen.dropped && has_flat(&seen.flat, 4, frame.body),
+        0x9C => has_flat(&seen.flat, seen.dropped, 2, frame.body),
+        0x9D => has_flat(&seen.flat, seen.dropped, 4, frame.body),
         0x8A | 0x8B => start_is_flat(&seen.flat, frame.body),
+        0x90 | 0x91 | 0xB6 | 0xB7 => front_is_flat(&seen.flat, frame.body),
         _ => false,
     }
 }

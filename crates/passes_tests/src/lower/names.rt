@@ -233,6 +233,49 @@ A1 01 00*8
 9A 02
 8A 80 10 01 01 00 00
 
+# as the base of public names, and another group and none as theirs
+80 01 41
+96 00 04 46 4C 41 54 04 43 4F 44 45
+9A 02
+9A 03
+90 02 01 01 70 00 00 00
+91 00 01 01 71 00 00 00 00 00
+B6 02 01 01 72 00 00 00
+90
+--
+80 01 41
+96 00 04 46 4C 41 54 04 43 4F 44 45
+9A 02
+9A 03
+90 02 01 01 70 00 00 00
+90 00 01 01 71 00 00 00
+B6 02 01 01 72 00 00 00
+90
+
+80 01 41
+96 00 04 46 4C 41 54
+9A 02
+90 01 01 01 70 00 00 00
+= record 3: an address counts from the group FLAT
+
+80 01 41
+96 00 04 46 4C 41 54
+9A 02
+91 80 01 01 01 70 00 00 00 00 00
+= record 3: an address counts from the group FLAT
+
+80 01 41
+96 00 04 46 4C 41 54
+9A 02
+B6 01 00 40 00 01 70 00 00 00
+= record 3: an address counts from the group FLAT
+
+80 01 41
+96 00 04 46 4C 41 54
+9A 02
+B7 01 01 01 70 00 00 00 00 00
+= record 3: an address counts from the group FLAT
+
 # of what only debuggers read
 80 01 41
 96 00 04 46 4C 41 54 05 44 57 41 52 46
