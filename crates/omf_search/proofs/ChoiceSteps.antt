@@ -15,7 +15,6 @@ use Rattle.omf_search.specs.Said.{Module, Wanted, defines, is_defined, offers}
 use Rattle.omf_search.specs.Search.{Choice, Member, choice, first_offering, next_choice, takes}
 use Rattle.omf_search.specs.Searching.{choice_found}
 use Rattle.omf_search.specs.Wanted.{wanted_names}
-use Rattle.omf_search.proofs.Joining.{wanted-front}
 use Rattle.omf_search.proofs.Placing.{found_place}
 use Rattle.omf_search.proofs.TakenSteps.{is_defined-push}
 
@@ -32,7 +31,7 @@ module _ (names : Names) (bs : List Member) where
   pub offering-offers : (n : List ℕ) (b : Member) → first_offering names bs n ≡ Some b → offers names n b.says ≡ true
   offering-offers n b e = find-passes (λ b. offers names n b.says) bs b e
 
-  takes-less : (ms : List Module) (m : Module) (w : Wanted) → takes names bs ms w ≡ false
+  pub takes-less : (ms : List Module) (m : Module) (w : Wanted) → takes names bs ms w ≡ false
       → takes names bs (ms ++ m ∷ []) w ≡ false
   takes-less ms m w e =
       (elim (is_defined names ms w.name) as (λ b.
@@ -51,21 +50,6 @@ module _ (names : Names) (bs : List Member) where
       and-false : (b : Bool) → (b && false) ≡ false
       and-false true = refl
       and-false false = refl
-
-  -- names that take nothing take nothing once there are more modules
-  settled : (ms : List Module) (m : Module) (ws : List Wanted) → find (takes names bs ms) ws ≡ None
-      → find (takes names bs (ms ++ m ∷ [])) ws ≡ None
-  settled ms m [] e = refl
-  settled ms m (w ∷ ws) e =
-      (elim (takes names bs ms w) as (λ b.
-      takes names bs ms w ≡ b → cond b (Some w) (find (takes names bs ms) ws) ≡ None
-      → find (takes names bs (ms ++ m ∷ [])) (w ∷ ws) ≡ None) [
-        | true ↦ λ t u. cc
-        | false ↦
-            λ t u.
-            ap (λ b. cond b (Some w) (find (takes names bs (ms ++ m ∷ [])) ws)) (takes-less ms m w t)
-            ∙ settled ms m ws u
-      ]) refl e
 
   find-more : (ms : List Module) (ws : List Wanted) (i : ℕ) (w d : Wanted) → i < length ws → w ≡ get_or ws i d →
       find (takes names bs ms) (take i ws) ≡ None → takes names bs ms w ≡ false →
@@ -123,14 +107,6 @@ module _ (names : Names) (bs : List Member) where
             sym (take-append-drop (i + 1) ws)
             ∙ ap (λ front. front ++ drop (i + 1) ws) (take_more ws i d h ∙ ap (λ v. take i ws ++ v ∷ []) (sym e))
             ∙ append_assoc (take i ws) (w ∷ []) (drop (i + 1) ws)
-
-  -- names that take nothing take nothing once a module joins
-  pub settled_more : (ms : List Module) (m : Module) (i : ℕ) → i ≤ length (wanted_names names ms)
-      → find (takes names bs ms) (take i (wanted_names names ms)) ≡ None
-      → find (takes names bs (ms ++ m ∷ [])) (take i (wanted_names names (ms ++ m ∷ []))) ≡ None
-  settled_more ms m i h none =
-      ap (find (takes names bs (ms ++ m ∷ []))) (wanted-front names ms m i h)
-      ∙ settled ms m (take i (wanted_names names ms)) none
 
   -- with all wanted names settled, nothing is taken
   pub ended : (ms : List Module) (i : ℕ) → length (wanted_names names ms) ≤ i

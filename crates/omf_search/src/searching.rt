@@ -1,23 +1,23 @@
 //! Which members of libraries a link takes.
 
-ghost use Rattle.std.specs.Prelude.{◌≡◌, ◌++◌, [], ◌∷◌, ℕ, List, OnOk, Some, None, cond, length, if◌then◌else◌};
-ghost use Rattle.std.specs.Prelude.{map, take};
+ghost use Rattle.std.specs.Prelude.{◌≡◌, ◌+◌, ◌++◌, [], ◌∷◌, ℕ, List, OnOk, Some, None, cond, length, map, take};
+ghost use Rattle.std.specs.Prelude.{if◌then◌else◌};
 ghost use Rattle.std.specs.Borrow.{Bor};
 ghost use Rattle.std.specs.Option.{option_or};
 ghost use Rattle.omf_search.specs.Keys.{value_of};
 ghost use Rattle.omf_search.specs.Taken.{IsTaken};
-ghost use Rattle.omf_search.specs.Results.{bytes_of, module_said, wanted_said};
-ghost use Rattle.omf_search.specs.Said as said;
+ghost use Rattle.omf_search.specs.Results.{module_said, wanted_said};
 ghost use Rattle.omf_search.specs.Said.{Module, is_defined, offers as says_it};
 ghost use Rattle.omf_search.specs.Search.{Member, next_choice};
 ghost use Rattle.omf_search.specs.Searching.{HasPlaces, IsSearch, choice_found};
-ghost use Rattle.omf_search.specs.inside.Back.{IsBefore, lesser_if};
+ghost use Rattle.omf_search.specs.inside.Back.{IsFound, IsSettled, LooksAgain};
 
 use crate::name_map::NameMap;
 use crate::said::{Said, Wanted};
 use crate::taken::Taken;
 use omf_place::Names;
 use std::alloc::{AllocError, Allocator, Global};
+use std::collections::BTreeSet;
 
 /// A member that a link takes, and why.
 #[derive(Clone, Copy)]
@@ -48,20 +48,20 @@ fn offer_each<'a, A: Allocator + Copy>(
     Ok(())
 }
 
-/// The member that a name takes, if no module defines it and some member offers it.
-fn taken_by<'a, A: Allocator + Copy>(
+/// What a map has for a name, unless a module defines the name.
+fn of_open<'a, A: Allocator + Copy>(
     names: Names,
     taken: &Taken<'a, A>,
-    offers: &NameMap<'a, usize, A>,
+    map: &NameMap<'a, usize, A>,
     name: &'a [u8],
 ) -> Option<usize>
     ensures { (ms : List Module) → IsTaken names ms taken.now →
-        result ≡ cond (is_defined names ms name.now) None (value_of names offers.now name.entry) }
+        result ≡ cond (is_defined names ms name.now) None (value_of names map.now name.entry) }
 {
     if taken.defines(names, name) {
         return None;
     }
-    offers.get(names, name)
+    map.get(names, name)
 }
 
 /// Gives the wanted names from this place on their places, but for names that are wanted before.
@@ -82,45 +82,6 @@ fn place_each<'a, A: Allocator + Copy>(
     Ok(())
 }
 
-/// The lesser of a place and the first one at which a name is wanted, if no module defines it.
-fn lesser_place<'a, A: Allocator + Copy>(
-    taken: &Taken<'a, A>,
-    places: &NameMap<'a, usize, A>,
-    names: Names,
-    name: &'a [u8],
-    place: usize,
-) -> usize
-    ensures { (ms : List Module) → IsTaken names ms taken.now → result ≡ lesser_if (is_defined names ms name.now) place
-        (value_of names places.now name.entry) }
-{
-    if taken.defines(names, name) {
-        return place;
-    }
-    match places.get(names, name) {
-        Some(other) => place.min(other),
-        None => place,
-    }
-}
-
-/// The first place, before this one, at which one of these names is wanted that no module defines; else this one.
-fn first_wanted<'a, A: Allocator + Copy>(
-    taken: &Taken<'a, A>,
-    places: &NameMap<'a, usize, A>,
-    names: Names,
-    offered: &[&'a [u8]],
-    before: usize,
-) -> usize
-    ensures { (ms : List Module) (ws : List said.Wanted) → IsTaken names ms taken.now →
-        HasPlaces names ws places.now → IsBefore names ms (bytes_of offered.now) ws before result }
-{
-    let mut first = before;
-    for name in offered {
-        let place = lesser_place(taken, places, names, name, first);
-        first = place;
-    }
-    first
-}
-
 /// A search for the members of libraries that a link takes: the modules that are linked, and the members that may be
 /// taken. Both may be added at any time. The members stand in the order of search: those of the first library, in its
 /// order, then those of the second, and so on.
@@ -128,9 +89,14 @@ fn first_wanted<'a, A: Allocator + Copy>(
 pub struct Search<'a, A: Allocator + Copy = Global> {
     names: Names,
     taken: Taken<'a, A>,
+    /// Where each name is wanted first.
     places: NameMap<'a, usize, A>,
+    /// Which member offers each name first.
     offers: NameMap<'a, usize, A>,
+    /// How many wanted names were looked at. It never gets less.
     next: usize,
+    /// The places, among those, that are looked at again: a member was added since that offers the name.
+    back: BTreeSet<usize, A>,
 }
 
 impl<'a, A: Allocator + Copy> Search<'a, A> {
@@ -144,6 +110,7 @@ impl<'a, A: Allocator + Copy> Search<'a, A> {
             places: NameMap::new(alloc),
             offers: NameMap::new(alloc),
             next: 0,
+            back: BTreeSet::new(alloc),
         }
     }
 
@@ -161,6 +128,22 @@ impl<'a, A: Allocator + Copy> Search<'a, A> {
         place_each(&mut self.places, self.names, wanted, first)
     }
 
+    /// Puts the first place at which a name is wanted among those to look at again, if it was looked at, and no module
+    /// defines the name.
+    fn put_back(&mut self, name: &'a [u8]) -> Result<(), AllocError>
+        ensures { OnOk result ((names : Names) (ms : List Module) (bs : List Member) (ns : List (List ℕ)) →
+            LooksAgain names ms bs ns self.old → LooksAgain names ms bs (ns ++ name.now ∷ []) self.new) }
+    {
+        let Some(place) = of_open(self.names, &self.taken, &self.places, name) else {
+            return Ok(());
+        };
+        if place >= self.next {
+            return Ok(());
+        }
+        self.back.insert(place)?;
+        Ok(())
+    }
+
     /// Adds a member that may be taken, behind the others, which are as many as its index says.
     ///
     /// # Errors
@@ -170,15 +153,45 @@ impl<'a, A: Allocator + Copy> Search<'a, A> {
             b.says ≡ module_said says.entry → IsSearch names ms bs self.old →
             IsSearch names ms (bs ++ b ∷ []) self.new) }
     {
-        let next = first_wanted(
-            &self.taken,
-            &self.places,
-            self.names,
-            says.offered,
-            self.next,
-        );
-        self.next = next;
+        for offered in says.offered {
+            self.put_back(offered)?;
+        }
         offer_each(&mut self.offers, self.names, says, index)
+    }
+
+    /// What is found at a place: the member that the name takes which is wanted there, if it takes one.
+    fn found_at(&self, place: usize) -> Option<Found<'a>>
+        ensures { (names : Names) (ms : List Module) (bs : List Member) → IsSearch names ms bs self.now →
+            IsSettled names ms bs place → IsFound names ms bs (place + 1) result }
+    {
+        if place >= self.taken.meeting.wanted.len() {
+            return None;
+        }
+        let wanted = self.taken.meeting.wanted[place];
+        let Some(member) = of_open(self.names, &self.taken, &self.offers, wanted.name) else {
+            return None;
+        };
+        Some(Found {
+            member,
+            name: wanted.name,
+            wanted_by: wanted.wanted_by,
+        })
+    }
+
+    /// What is found at the first place to look at again where a name takes a member. Those before it are done with.
+    fn found_again(&mut self) -> Option<Found<'a>>
+        ensures same { (names : Names) (ms : List Module) (bs : List Member) →
+            IsSearch names ms bs self.old → IsSearch names ms bs self.new }
+        ensures found { (names : Names) (ms : List Module) (bs : List Member) →
+            IsSearch names ms bs self.old → IsFound names ms bs self.new.next result }
+    {
+        while let Some(&place) = self.back.first() {
+            if let Some(found) = self.found_at(place) {
+                return Some(found);
+            }
+            self.back.pop_first();
+        }
+        None
     }
 
     /// The member that is taken next: the first wanted name that no module defines and a member offers takes the first
@@ -189,14 +202,12 @@ impl<'a, A: Allocator + Copy> Search<'a, A> {
         ensures found { (names : Names) (ms : List Module) (bs : List Member) →
             IsSearch names ms bs self.old → choice_found bs result ≡ next_choice names bs ms }
     {
+        if let Some(found) = self.found_again() {
+            return Some(found);
+        }
         while self.next < self.taken.meeting.wanted.len() {
-            let wanted = self.taken.meeting.wanted[self.next];
-            if let Some(member) = taken_by(self.names, &self.taken, &self.offers, wanted.name) {
-                return Some(Found {
-                    member,
-                    name: wanted.name,
-                    wanted_by: wanted.wanted_by,
-                });
+            if let Some(found) = self.found_at(self.next) {
+                return Some(found);
             }
             self.next += 1;
         }

@@ -3,8 +3,7 @@ use Rattle.omf_place.specs.declared.names.Names.{Names}
 use Rattle.omf_search.specs.Searching.{HasPlaces}
 use Rattle.omf_search.specs.Taken.{IsTaken}
 use Rattle.omf_search.specs.Results.{module_said, wanted_said}
-use Rattle.omf_search.proofs.ChoiceSteps.{settled_more}
-use Rattle.omf_search.proofs.GoingBack.{places-more}
+use Rattle.omf_search.proofs.GoingBack.{first-module, places-more}
 use Rattle.omf_search.proofs.Joining.{wanted-longer}
 use Rattle.omf_search.proofs.Results.{OnOk-map}
 use Rattle.omf_search.proofs.searching.Search.add_module.Goals as goal
@@ -34,5 +33,6 @@ returns g c =
           was.places;
       offered = was.offered;
       within = omega (arith, longer, was.within);
-      settled = settled_more names bs ms m old.next was.within was.settled;
+      again = first-module names bs ms m old.next old.back was.within was.again;
+      behind = was.behind;
     }) c.place_each.ensures
