@@ -1,3 +1,4 @@
+pub mod LeftOut
 pub mod Looking
 pub mod Parting
 pub mod Parts

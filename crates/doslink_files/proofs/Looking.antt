@@ -2,7 +2,7 @@
 use Rattle.std.proofs.Common.{◌≡◌, ◌≢◌, ℕ, ◌+◌, ◌<◌, List, String, [], ◌∷◌, ◌++◌, length, map, take, get_or}
 use Rattle.std.proofs.Common.{append_assoc, arith}
 use Rattle.std.proofs.Common.{Result, Ok, Err, Some, None, IfOk, IfSome, IsTrue, ap, sym, subst, ◌∙◌, string_bytes}
-use Rattle.std.proofs.lemmas.List.{flat_map_more, get_or-map, length-map, map-append, map_more, take_more}
+use Rattle.std.proofs.lemmas.List.{flat_map_more, get_or-map, length-map, map-append, map_more}
 use Rattle.std.proofs.Math.Seq.{take-append_seam}
 use Rattle.std.specs.declared.option.Option.{Option}
 use Rattle.std.specs.Borrow.{Bor}
@@ -12,9 +12,9 @@ use Rattle.doslink_files.specs.declared.reading.Sought.{Sought}
 use Rattle.doslink_files.specs.declared.lookup.Found.{Found}
 use Rattle.doslink_files.specs.declared.lookup.Found.TheVariants.{New, Known}
 use Rattle.doslink_files.specs.declared.reading.InputFile.{InputFile}
-use Rattle.doslink_files.specs.Files.{AreSought, IsFileOf, IsFoundNew, IsObjectPath, IsPathOf}
+use Rattle.doslink_files.specs.Files.{IsFileOf, IsFoundNew, IsObjectPath, IsPathOf}
 use Rattle.doslink_files.specs.inside.Looking.{IsReadNew}
-use Rattle.doslink_files.specs.Files.{IsModulesPart, IsSought, contents, sought_name}
+use Rattle.doslink_files.specs.Files.{IsModulesPart, sought_name}
 use Rattle.doslink_files.specs.Paths as spec
 use Rattle.doslink_files.specs.Standing as spec-front
 use Rattle.doslink_files.specs.Standing.{BeginsAsInput}
@@ -60,17 +60,6 @@ path-at paths i d all h are =
     subst (λ ps. Contains ps (string_bytes (get_or paths i d))) are
     (i, there, get_or-map string_bytes paths i d (string_bytes (get_or paths i d)) h)
 
--- one more that was read
-pub AreSought-push : (told : List ℕ → Option (List ℕ)) (objects libraries : List (List ℕ)) (sought : List Sought)
-    (files : List (List ℕ)) (one : Sought) (bytes : List ℕ) → AreSought told objects libraries sought files
-    → IsSought told objects libraries one bytes
-    → AreSought told objects libraries (sought ++ one ∷ []) (files ++ bytes ∷ [])
-AreSought-push told objects libraries [] [] one bytes are is = (is, tt)
-AreSought-push told objects libraries [] (x ∷ xs) one bytes are is = absurd are
-AreSought-push told objects libraries (s ∷ ss) [] one bytes are is = absurd are
-AreSought-push told objects libraries (s ∷ ss) (x ∷ xs) one bytes are is =
-    (are.0, AreSought-push told objects libraries ss xs one bytes are.1 is)
-
 -- what a look-up found among some paths stands at one of them
 pub first-of : {A E : Type 0} (told : List ℕ → Option (List ℕ)) (paths all : List (List ℕ))
     (found : Result (InputFile A) E) → paths ≡ all → IfOk found (λ file. Contains paths (string_bytes file.path))
@@ -95,19 +84,6 @@ pub found-new : {A : Type 0} (told : List ℕ → Option (List ℕ)) (folders : 
 found-new told folders name path (New file) stands is =
     rw is.0 (stands, is.1)
 found-new told folders name path Known stands is = tt
-
--- one more file, where none is unread
-pub sought-next : {A : Type 0} (told : List ℕ → Option (List ℕ)) (objects libraries : List (List ℕ))
-    (sought : List Sought) (i : ℕ) (d : Sought) (old new : List (InputFile A)) (file : InputFile A)
-    → i < length sought → new ≡ old ++ file ∷ [] → AreSought told objects libraries (take i sought) (contents old)
-    → IsSought told objects libraries (get_or sought i d) file.bytes.items
-    → AreSought told objects libraries (take (i + 1) sought) (contents new)
-sought-next told objects libraries sought i d old new file h pushed are is =
-    subst (λ (ss : List Sought). AreSought told objects libraries ss (contents new)) (sym (take_more sought i d h))
-    (subst (AreSought told objects libraries (take i sought ++ get_or sought i d ∷ []))
-    (sym (ap contents pushed ∙ map-append (λ f. f.bytes.items) old (file ∷ [])))
-    (AreSought-push told objects libraries (take i sought) (contents old) (get_or sought i d) file.bytes.items are
-    is))
 
 -- the name of one that is sought
 pub sought-at : (sought : List Sought) (i : ℕ) (d : Sought) → i < length sought

@@ -1,10 +1,15 @@
--- The files of a link, which are read, and libraries, which are looked up. `told` are the bytes of files by their paths,
--- where the world tells them.
-use Rattle.std.specs.Prelude.{All, ◌≡◌, ◌≢◌, ℕ, List, [], ◌∷◌, map, string_bytes, Some, None, IfSome, true}
+-- The files of a link, which are read, and libraries, which are looked up. `told` are the bytes of files by their
+-- paths, where the world tells them.
+use Rattle.std.specs.Prelude.{All, ◌≡◌, ◌≢◌, ◌==◌, ◌||◌, ◌&&◌, ◌⊎◌, Bool, not, ℕ, List, [], ◌∷◌, ◌++◌, map}
+use Rattle.std.specs.Prelude.{string_bytes}
+use Rattle.std.specs.Prelude.{Some, None, IfSome, if◌then◌else◌, true, false, take}
 use Rattle.std.specs.declared.option.Option.{Option}
 use Rattle.std.specs.List.{Contains}
 use Rattle.omf_files.specs.declared.world.Looked.{Looked}
+use Rattle.omf_library.specs.declared.files.FileKind.{FileKind}
+use Rattle.omf_library.specs.declared.files.FileKind.TheVariants.{Object}
 use Rattle.omf_library.specs.Ending.{modules_part}
+use Rattle.omf_library.specs.Files.{file_kind}
 use Rattle.doslink_files.specs.declared.fault.FilesFault.{FilesFault}
 use Rattle.doslink_files.specs.declared.fault.FilesFault.TheVariants as fault
 use Rattle.doslink_files.specs.declared.lookup.Found.{Found}
@@ -24,10 +29,32 @@ abbrev pub IsTold : Option (List ℕ) → (bytes : List ℕ) → Type 0
 IsTold None bytes = Unit {0}
 IsTold (Some told) bytes = bytes ≡ told
 
--- these are the bytes of a file up to the end of its modules, where its bytes are told
+-- a file begins with the header of a module: THEADR 80H, LHEADR 82H
+abbrev pub has_header : List ℕ → Bool
+has_header [] = false
+has_header (first ∷ rest) = first == 0x80 || first == 0x82
+
+-- it is neither a library nor an archive
+abbrev pub is_object : FileKind → Bool
+is_object Object = true
+is_object _ = false
+
+-- A file begins as none with modules does: as no module, library or archive. What is at fault is its first record.
+abbrev pub is_foreign : List ℕ → Bool
+is_foreign file = is_object (file_kind file) && not (has_header file)
+
+-- so many bytes has the longest record: its type, a length word, and 65,535
+abbrev pub longest_record : ℕ
+longest_record = 65538
+
+-- what is read of a file: what tells its modules, and of one without any what tells its fault
+abbrev pub part_read : List ℕ → List ℕ
+part_read file = if is_foreign file then take longest_record file else modules_part file
+
+-- these are the bytes that are read of a file, where its bytes are told
 abbrev pub IsModulesPart : Option (List ℕ) → (bytes : List ℕ) → Type 0
 IsModulesPart None bytes = Unit {0}
-IsModulesPart (Some told) bytes = bytes ≡ modules_part told
+IsModulesPart (Some told) bytes = bytes ≡ part_read told
 
 -- for each name there are bytes for which this holds, in their order
 abbrev pub Each : (List ℕ → List ℕ → Type 0) → (names files : List (List ℕ)) → Type 0
@@ -70,13 +97,34 @@ abbrev pub IsSought : (told : List ℕ → Option (List ℕ)) → (objects libra
 IsSought told objects libraries (File path) bytes = IsFileOf told objects path.now bytes
 IsSought told objects libraries (Library name) bytes = (path : List ℕ) × IsFound told libraries name.now path bytes
 
--- the same of all that is wanted, in its order
+-- a file is a library or an archive
+abbrev pub is_library : (bytes : List ℕ) → Bool
+is_library bytes = not (is_object (file_kind bytes))
+
+-- what is wanted is left out behind these files: it is a library or an archive, and its bytes are those of one of them
+abbrev pub IsLeftOut : (told : List ℕ → Option (List ℕ)) → (objects libraries before : List (List ℕ)) → Sought → Type 0
+IsLeftOut told objects libraries before one =
+    (bytes : List ℕ) × IsSought told objects libraries one bytes × (is_library bytes ≡ true) × Contains before bytes
+
+-- The files are those that are wanted, in their order, behind others that stand before them: each one's bytes are the
+-- next file, or it is left out.
+abbrev pub AreSoughtBehind : (told : List ℕ → Option (List ℕ)) → (objects libraries before : List (List ℕ))
+    → List Sought → (files : List (List ℕ)) → Type 0
+AreSoughtBehind told objects libraries before [] [] = Unit {0}
+AreSoughtBehind told objects libraries before [] (bytes ∷ files) = ⊥
+AreSoughtBehind told objects libraries before (one ∷ sought) [] =
+    IsLeftOut told objects libraries before one × AreSoughtBehind told objects libraries before sought []
+AreSoughtBehind told objects libraries before (one ∷ sought) (bytes ∷ files) =
+    (IsSought told objects libraries one bytes
+    × AreSoughtBehind told objects libraries (before ++ bytes ∷ []) sought files)
+    ⊎ (IsLeftOut told objects libraries before one
+    × AreSoughtBehind told objects libraries before sought (bytes ∷ files))
+
+-- The files are those that are wanted, in their order, but for libraries and archives whose bytes stand among the files
+-- before. A module is there as often as it is wanted.
 abbrev pub AreSought : (told : List ℕ → Option (List ℕ)) → (objects libraries : List (List ℕ)) → List Sought
     → (files : List (List ℕ)) → Type 0
-AreSought told objects libraries [] [] = Unit {0}
-AreSought told objects libraries (one ∷ sought) (bytes ∷ files) =
-    IsSought told objects libraries one bytes × AreSought told objects libraries sought files
-AreSought told objects libraries _ _ = ⊥
+AreSought told objects libraries sought files = AreSoughtBehind told objects libraries [] sought files
 
 -- the path or the name of what is wanted
 abbrev pub sought_name : Sought → List ℕ

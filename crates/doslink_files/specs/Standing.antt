@@ -1,7 +1,7 @@
 -- What stands where a file is to be written, and what a file begins as, by its first bytes. `looks` is what stands at
 -- each path, and none where nothing does.
-use Rattle.std.specs.Prelude.{ℕ, ◌+◌, ◌*◌, ◌==◌, ◌||◌, ◌&&◌, Bool, IsTrue, true, false, nat_eq, take, drop, length}
-use Rattle.std.specs.Prelude.{List, [], ◌∷◌, ◌++◌, codes, bytes_eq, Some, None}
+use Rattle.std.specs.Prelude.{ℕ, ◌+◌, ◌*◌, ◌==◌, ◌||◌, ◌&&◌, Bool, IsTrue, true, false, nat_eq, nat_le, take, drop}
+use Rattle.std.specs.Prelude.{List, [], ◌∷◌, ◌++◌, codes, bytes_eq, if◌then◌else◌, length, Some, None}
 use Rattle.std.specs.declared.option.Option.{Option}
 use Rattle.std.specs.declared.cmp.Ordering.{Ordering}
 use Rattle.std.specs.BTreeSet.{BTreeSet, contains}
@@ -72,23 +72,32 @@ abbrev pub is_one_of : (looks : List ℕ → Option Looked) → (path : List ℕ
 is_one_of looks path is_read =
     option_map_or (λ found. is_regular found.kind && is_read found.id) (looks path) false
 
--- the folder in which the file at a path stands: what stands up to the last `/`, and else `.`
-abbrev pub folder_of : List ℕ → List ℕ
-folder_of path = option_map_or (λ last. take (last + 1) path) (rfind_below 47 path (length path)) (codes ".")
+-- a path as a folder, which ends at the last of this byte, and a name in it; without one it is a name in this folder
+abbrev pub parts_at : (border : ℕ) → List ℕ → List ℕ × List ℕ
+parts_at border path = option_map_or (λ last. (take (last + 1) path, drop (last + 1) path))
+    (rfind_below border path (length path)) (codes ".", path)
 
--- the name of the file at a path: what stands behind the last `/`
-abbrev pub name_of : List ℕ → List ℕ
-name_of path = option_map_or (λ last. drop (last + 1) path) (rfind_below 47 path (length path)) path
+-- of two ways to part a path the one with the shorter name
+abbrev pub nearer : (one other : List ℕ × List ℕ) → List ℕ × List ℕ
+nearer one other = if nat_le (length one.1) (length other.1) then one else other
+
+-- a path as a folder, which ends at the last `/`, `\` or `:`, and a name in it
+abbrev pub parts : List ℕ → List ℕ × List ℕ
+parts path = nearer (parts_at 47 path) (nearer (parts_at 92 path) (parts_at 58 path))
 
 -- the same stands at two places
 abbrev pub are_same : Option Looked → Option Looked → Bool
 are_same (Some first) (Some second) = is_same_file first.id second.id
 are_same _ _ = false
 
--- two paths are those of one name in one folder
-abbrev pub is_one_name : (looks : List ℕ → Option Looked) → (one other : List ℕ) → Bool
-is_one_name looks one other =
-    are_same (looks (folder_of one)) (looks (folder_of other)) && bytes_eq (name_of one) (name_of other)
+-- two are one name in one folder
+abbrev pub is_one_name : (looks : List ℕ → Option Looked) → (one other : List ℕ × List ℕ) → Bool
+is_one_name looks one other = are_same (looks one.0) (looks other.0) && bytes_eq one.1 other.1
+
+-- two paths are those of one name in one folder: as systems part them whose names may have `\` and `:`, or as others do
+abbrev pub are_one_name : (looks : List ℕ → Option Looked) → (one other : List ℕ) → Bool
+are_one_name looks one other =
+    is_one_name looks (parts_at 47 one) (parts_at 47 other) || is_one_name looks (parts one) (parts other)
 
 -- one regular file stands at two places, or nothing at either, and they have one name in one folder
 abbrev pub are_one : (is_name : Bool) → Option Looked → Option Looked → Bool
@@ -100,4 +109,4 @@ are_one is_name _ _ = false
 -- nothing stands at either, and they have one name in one folder.
 abbrev pub is_one_place : (looks : List ℕ → Option Looked) → (one other : List ℕ) → Bool
 is_one_place looks one other =
-    bytes_eq one other || are_one (is_one_name looks one other) (looks one) (looks other)
+    bytes_eq one other || are_one (are_one_name looks one other) (looks one) (looks other)

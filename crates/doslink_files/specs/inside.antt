@@ -1,2 +1,4 @@
 -- How the code sees what it works on: no public contract cites any of it.
+pub mod Fronts
 pub mod Looking
+pub mod Reading

@@ -1,8 +1,12 @@
 //! Files that are read into memory.
-ghost use Rattle.std.specs.Prelude.{◌≡◌, IfErr, IfOk, map, string_bytes};
+ghost use Rattle.std.specs.Prelude.{◌≡◌, ◌++◌, ◌∷◌, ℕ, [], All, IfErr, IfOk, IsTrue, List, OnOk, map, string_bytes};
+ghost use Rattle.std.specs.declared.option.Option.{Option};
 ghost use Rattle.std.specs.List.{Contains};
+ghost use Rattle.doslink_files.specs.declared.reading.Sought as wanted;
+ghost use Rattle.doslink_files.specs.Files as spec-files;
 ghost use Rattle.doslink_files.specs.Files.{AreSought, AreUnread, IsFileOf, IsModulesPart, IsSought};
 ghost use Rattle.doslink_files.specs.Files.{IsTold, contents, sought_name};
+ghost use Rattle.doslink_files.specs.inside.Reading.{IsReading};
 ghost use Rattle.doslink_files.specs.Paths as spec;
 
 use crate::fault::{FilesFault, ReadFault, Unread};
@@ -10,7 +14,9 @@ use crate::lookup::find_library;
 use crate::modules::read_modules;
 use crate::paths::{has_extension, paths_of};
 use omf_files::{FileId, World};
+use omf_library::{FileKind, file_kind};
 use std::alloc::{AllocError, Allocator, Global};
+use std::collections::{BTreeMap, BTreeSet};
 use std::io::Read;
 
 /// A file that was read.
@@ -25,7 +31,7 @@ pub struct InputFile<A: Allocator + Copy = Global> {
 }
 
 /// A file that is wanted.
-#[derive(Clone, Copy, Debug, PartialEq, Eq)]
+#[derive(Clone, Copy, Debug, PartialEq, Eq, PartialOrd, Ord)]
 pub enum Sought<'a> {
     /// The one at a path.
     File(&'a str),
@@ -212,9 +218,120 @@ fn read_one<W: World, A: Allocator + Copy>(
     }
 }
 
-/// Files that are wanted, one for each, in their order. A module is looked up at its path, and then in each of the
-/// folders of modules: the first file that can be opened, of the path as it stands and, where its last part has no dot,
-/// with `.OBJ` or `.obj` behind it. Libraries are looked up as `find_library` does, in the folders of libraries.
+/// Whether a file is a library or an archive.
+fn is_library(bytes: &[u8]) -> bool
+    ensures { result ≡ spec-files.is_library bytes.now }
+{
+    file_kind(bytes) != FileKind::Object
+}
+
+/// Whether the file at a place among some has these bytes.
+fn has_bytes_at<A: Allocator + Copy>(files: &[InputFile<A>], place: usize, bytes: &[u8]) -> bool
+    ensures { IsTrue result → Contains (contents files.now) bytes.now }
+{
+    match files.get(place) {
+        Some(file) => file.bytes.as_slice() == bytes,
+        None => false,
+    }
+}
+
+/// Files that are wanted and were read so far.
+#[derive(Drop)]
+struct Reading<'a, A: Allocator + Copy> {
+    /// They themselves, in their order.
+    files: Vec<InputFile<A>, A>,
+    /// What was wanted that is a library or an archive.
+    libraries: BTreeSet<Sought<'a>, A>,
+    /// Where each library and archive stands among them.
+    places: BTreeMap<FileId, usize, A>,
+    /// What isn't read, and why.
+    unread: Vec<Unread<'a>, A>,
+}
+
+impl<'a, A: Allocator + Copy> Reading<'a, A> {
+    /// Whether the bytes of a file are those of the library or archive that was read of the same file before.
+    fn has_bytes_of(&self, file: &InputFile<A>) -> bool
+        ensures { IsTrue result → Contains (contents self.now.files.items) file.now.bytes.items }
+    {
+        let Some(id) = &file.id else {
+            return false;
+        };
+        match self.places.get(id) {
+            Some(place) => has_bytes_at(&self.files, *place, &file.bytes),
+            None => false,
+        }
+    }
+
+    /// Marks the next file as a library or an archive: which it is, as far as the world can tell.
+    fn mark(&mut self, id: Option<FileId>) -> Result<(), AllocError>
+        ensures files { self.new.files ≡ self.old.files }
+        ensures libraries { self.new.libraries ≡ self.old.libraries }
+        ensures unread { self.new.unread ≡ self.old.unread }
+    {
+        if let Some(id) = id {
+            self.places.insert(id, self.files.len())?;
+        }
+        Ok(())
+    }
+
+    /// Puts a file behind those that were read. A library or an archive that stands there already is left out.
+    fn keep(&mut self, one: Sought<'a>, file: InputFile<A>) -> Result<(), AllocError>
+        ensures files { OnOk result ((told : List ℕ → Option (List ℕ)) (objects libraries : List (List ℕ))
+            (sought : List wanted.Sought) → IsSought told objects libraries one.entry file.bytes.items
+            → IsReading told objects libraries sought self.old
+            → IsReading told objects libraries (sought ++ one.entry ∷ []) self.new) }
+        ensures unread { self.new.unread ≡ self.old.unread }
+    {
+        if is_library(&file.bytes) {
+            self.libraries.insert(one)?;
+            if self.has_bytes_of(&file) {
+                return Ok(());
+            }
+            self.mark(file.id)?;
+        }
+        self.files.push(file)?;
+        Ok(())
+    }
+}
+
+/// Reads one more file that is wanted, unless it was wanted before by the same path or name, and is a library or an
+/// archive.
+fn read_next<'a, W: World, A: Allocator + Copy>(
+    alloc: A,
+    world: &W,
+    folders: Folders<'_>,
+    one: Sought<'a>,
+    reading: &mut Reading<'a, A>,
+) -> Result<(), AllocError>
+    ensures files { OnOk result ((sought : List wanted.Sought) → IsReading (W.bytes world.now)
+        (map (λ f. f.now) folders.entry.objects.now) (map (λ f. f.now) folders.entry.libraries.now) sought reading.old
+        → IsReading (W.bytes world.now) (map (λ f. f.now) folders.entry.objects.now)
+        (map (λ f. f.now) folders.entry.libraries.now) (sought ++ one.entry ∷ []) reading.new) }
+    ensures unread { OnOk result ((names : List (List ℕ)) → Contains names (sought_name one.entry)
+        → All (λ u. Contains names u.name.now) reading.old.unread.items
+        → All (λ u. Contains names u.name.now) reading.new.unread.items) }
+{
+    if reading.libraries.contains(&one) {
+        return Ok(());
+    }
+    match read_one(alloc, world, folders, one) {
+        Ok(file) => reading.keep(one, file),
+        Err(ReadFault::Memory) => Err(AllocError),
+        Err(fault) => {
+            let name = one.name();
+            reading.unread.push(Unread { name, fault })?;
+            Ok(())
+        }
+    }
+}
+
+/// Files that are wanted, in their order. A module is looked up at its path, and then in each of the folders of
+/// modules: the first file that can be opened, of the path as it stands and, where its last part has no dot, with
+/// `.OBJ` or `.obj` behind it. Libraries are looked up as `find_library` does, in the folders of libraries.
+///
+/// A library or an archive whose bytes stand among the files before is left out: a name that it offers is found in the
+/// first of the two. Where the same path or name led to it, it isn't read again either. A module that is wanted twice
+/// is there twice.
 ///
 /// # Errors
 /// All that can't be found or read, and why; or want of memory.
@@ -228,18 +345,16 @@ pub fn read_sought<'a, W: World, A: Allocator + Copy>(
         (map (λ f. f.now) folders.entry.libraries.now) sought.now (contents files.items)) }
     ensures unread { IfErr result (AreUnread (map sought_name sought.now)) }
 {
-    let mut files = Vec::new(alloc);
-    let mut unread = Vec::new(alloc);
-    for each in sought {
-        match read_one(alloc, world, folders, *each) {
-            Ok(file) => files.push(file)?,
-            Err(ReadFault::Memory) => return Err(FilesFault::Memory),
-            Err(fault) => unread.push(Unread {
-                name: each.name(),
-                fault,
-            })?,
-        }
+    let mut reading = Reading {
+        files: Vec::new(alloc),
+        libraries: BTreeSet::new(alloc),
+        places: BTreeMap::new(alloc),
+        unread: Vec::new(alloc),
+    };
+    for one in sought {
+        read_next(alloc, world, folders, *one, &mut reading)?;
     }
+    let Reading { files, unread, .. } = reading;
     if unread.is_empty() {
         Ok(files)
     } else {

@@ -1,5 +1,5 @@
 //! What stands where a file is to be written.
-ghost use Rattle.std.specs.Prelude.{◌≡◌, ◌&&◌, bytes_eq, IfSome, IsTrue, true};
+ghost use Rattle.std.specs.Prelude.{◌≡◌, ◌<◌, IfSome, IsTrue, true};
 ghost use Rattle.doslink_files.specs.Standing as spec;
 
 use omf_files::{FileId, PlaceKind, World};
@@ -92,15 +92,37 @@ pub fn is_one_of<W: World, A: Allocator>(world: &W, path: &str, files: &BTreeSet
     }
 }
 
-/// A path as a folder, in which the file stands, and the name of the file.
-fn parts(path: &str) -> (&str, &str)
-    ensures folder { result.0.now ≡ spec.folder_of path.now }
-    ensures name { result.1.now ≡ spec.name_of path.now }
+/// A path as a folder, which ends at the last of these characters, and the name of a file in it.
+fn parts_at(border: char, path: &str) -> (&str, &str)
+    requires { border < 128 }
+    ensures { (result.0.now, result.1.now) ≡ spec.parts_at border path.now }
 {
-    match path.rfind('/') {
+    match path.rfind(border) {
         Some(last) => (&path[..last + 1], &path[last + 1..]),
         None => (".", path),
     }
+}
+
+/// Of two ways to part a path the one with the shorter name.
+fn nearer<'p>(one: (&'p str, &'p str), other: (&'p str, &'p str)) -> (&'p str, &'p str)
+    ensures { (result.0.now, result.1.now)
+        ≡ spec.nearer (one.entry.0.now, one.entry.1.now) (other.entry.0.now, other.entry.1.now) }
+{
+    if one.1.len() <= other.1.len() {
+        one
+    } else {
+        other
+    }
+}
+
+/// A path as a folder, which ends at its last `/`, `\` or `:`, and the name of a file in it.
+fn parts(path: &str) -> (&str, &str)
+    ensures { (result.0.now, result.1.now) ≡ spec.parts path.now }
+{
+    nearer(
+        parts_at('/', path),
+        nearer(parts_at('\\', path), parts_at(':', path)),
+    )
 }
 
 /// Whether two files that are written at these paths would be one: the paths are the same, a regular file stands at
@@ -113,15 +135,19 @@ pub fn is_one_place<W: World>(world: &W, one: &str, other: &str) -> bool
     }
     match (world.look(one), world.look(other)) {
         (Ok(first), Ok(second)) => first.kind == PlaceKind::Regular && first.id == second.id,
-        (Err(_), Err(_)) => is_one_name(world, parts(one), parts(other)),
+        (Err(_), Err(_)) => {
+            is_one_name(world, parts_at('/', one), parts_at('/', other))
+                || is_one_name(world, parts(one), parts(other))
+        }
         _ => false,
     }
 }
 
 /// Whether two names, each behind its folder, are one in one folder.
 fn is_one_name<W: World>(world: &W, one: (&str, &str), other: (&str, &str)) -> bool
-    ensures { IfSome (W.looks world.now) (λ looks. result ≡ (spec.are_same (looks one.entry.0.now)
-        (looks other.entry.0.now) && bytes_eq one.entry.1.now other.entry.1.now)) }
+    ensures { IfSome (W.looks world.now)
+        (λ looks. result ≡ spec.is_one_name looks (one.entry.0.now, one.entry.1.now)
+        (other.entry.0.now, other.entry.1.now)) }
 {
     match (world.look(one.0), world.look(other.0)) {
         (Ok(first), Ok(second)) => first.id == second.id && one.1 == other.1,

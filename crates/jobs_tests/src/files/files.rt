@@ -11,8 +11,8 @@ use std::alloc::{AllocError, Global};
 use std::collections::BTreeSet;
 use std::test::*;
 
-/// The files of the world: each holds its own name, but for those that begin as a module or a library does.
-const FILES: [(&str, &[u8]); 16] = [
+/// The files of the world: each holds its own name, but for those that begin as a module, a library or an archive does.
+const FILES: [(&str, &[u8]); 19] = [
     ("A.OBJ", b"A.OBJ"),
     ("MAIN.OBJ", b"MAIN.OBJ"),
     ("small.obj", b"small.obj"),
@@ -29,10 +29,22 @@ const FILES: [(&str, &[u8]); 16] = [
     ("M.MAP", &[0x80, 0x03, 0x00, 0x01, 0x41, 0x3B]),
     ("L.MAP", &[0xF0, 0x0D, 0x00, 0, 0, 0, 0, 0, 0, 0]),
     ("T.MAP", b"segments\n"),
+    ("BOTH.LIB", &[0xF0, 0x0D, 0x00, 0, 0, 0, 0, 0, 0, 0]),
+    ("LIKE.LIB", &[0xF0, 0x0D, 0x00, 0, 0, 0, 0, 0, 0, 0]),
+    ("PACK.LIB", b"!<arch>\nPACK.LIB"),
 ];
 
 /// Other paths of some of them.
-const LINKS: [(&str, &str); 3] = [("./A.OBJ", "A.OBJ"), ("OTHER.LIB", "RUN.LIB"), ("./", ".")];
+const LINKS: [(&str, &str); 8] = [
+    ("./A.OBJ", "A.OBJ"),
+    ("OTHER.LIB", "RUN.LIB"),
+    ("./BOTH.LIB", "BOTH.LIB"),
+    ("./PACK.LIB", "PACK.LIB"),
+    ("PIPE", "ZERO"),
+    ("./", "."),
+    (".\\", "."),
+    ("sub\\", "sub/"),
+];
 
 /// A world of these files, with folders, a device and a file that may not be opened.
 fn desk_of<'p>(page: &'p Page<'p>, count: &'p Count) -> Desk<'static, 'p> {
@@ -63,7 +75,7 @@ const FOLDERS: Folders<'static> = Folders {
     libraries: &["LIBS", "MORE"],
 };
 
-/// What words find: each file's path, or what isn't read and why.
+/// What words find: each file's path and its bytes, `library` where these are no text; or what isn't read and why.
 fn told(alloc: Global, desk: &Desk<'_, '_>, line: &str) -> Result<String, Fail> {
     let sought = line
         .split(' ')
@@ -73,7 +85,8 @@ fn told(alloc: Global, desk: &Desk<'_, '_>, line: &str) -> Result<String, Fail> 
     match read_sought(alloc, desk, FOLDERS, &sought) {
         Ok(files) => {
             for file in &files {
-                write!(text, "{} {}\n", file.path, str::from_utf8(&file.bytes)?)?;
+                let bytes = str::from_utf8(&file.bytes).unwrap_or("library");
+                write!(text, "{} {}\n", file.path, bytes)?;
             }
         }
         Err(FilesFault::Memory) => text.push_str("memory\n")?,
@@ -125,7 +138,28 @@ KEPT: no permission
 OBJS/B: no such file
 
 MAIN.LIB
-= MAIN.LIB: no such file";
+= MAIN.LIB: no such file
+
+-lBOTH A.OBJ -lBOTH BOTH.LIB ./BOTH.LIB -l./BOTH
+= BOTH.LIB library
+A.OBJ A.OBJ
+
+./BOTH.LIB LIKE.LIB -lLIKE -lBOTH.LIB
+= ./BOTH.LIB library
+LIKE.LIB library
+
+PACK.LIB A.OBJ -lPACK ./PACK.LIB PACK.LIB ./A.OBJ A.OBJ A
+= PACK.LIB !<arch>
+PACK.LIB
+A.OBJ A.OBJ
+./A.OBJ A.OBJ
+A.OBJ A.OBJ
+A.OBJ A.OBJ
+
+-lBOTH BOTH -lNONE -lNONE
+= BOTH: no such file
+NONE: no such file
+NONE: no such file";
 
 /// The words of each row find what is wanted of them.
 fn all_found(alloc: Global, page: &Page<'_>, count: &Count) -> Result<(), Fail> {
@@ -142,6 +176,64 @@ fn all_found(alloc: Global, page: &Page<'_>, count: &Count) -> Result<(), Fail> 
 fn all_that_is_not_read_is_told(rt: HostRuntime) -> Result<(), Fail> {
     let page = Page::blank(rt.alloc(), "", 2_000);
     all_found(rt.alloc(), &page, &Count::new())
+}
+
+/// A library is opened once for each way in which it is spelled, and a module as often as it is wanted.
+fn opened(alloc: Global, page: &Page<'_>, count: &Count) -> Result<(), Fail> {
+    let desk = desk_of(page, count);
+    told(
+        alloc,
+        &desk,
+        "-lBOTH.LIB -lBOTH.LIB A.OBJ A.OBJ BOTH.LIB PACK.LIB BOTH.LIB PACK.LIB",
+    )?;
+    same(
+        str::from_utf8(&page.bytes(alloc)?)?,
+        "BOTH.LIB A.OBJ A.OBJ BOTH.LIB PACK.LIB ",
+    )
+}
+
+#[test]
+fn a_library_is_opened_once(rt: HostRuntime) -> Result<(), Fail> {
+    let page = Page::blank(rt.alloc(), "", 2_000);
+    opened(rt.alloc(), &page, &Count::new())
+}
+
+/// How many bytes are read of a file of 70,000 that begins with this one, and has zeros behind it.
+fn length_read(alloc: Global, page: &Page<'_>, count: &Count, first: u8) -> Result<usize, Fail> {
+    let mut bytes = Vec::from_slice(alloc, &[first])?;
+    for _ in 1..70_000 {
+        bytes.push(0)?;
+    }
+    let desk = Desk {
+        files: &[("LONG.OBJ", bytes.as_slice())],
+        ..desk_of(page, count)
+    };
+    match read_sought(alloc, &desk, FOLDERS, &[Sought::File("LONG")]) {
+        Ok(files) => match files.first() {
+            Some(file) => Ok(file.bytes.len()),
+            None => Err(Fail::from("left out")),
+        },
+        Err(_) => Err(Fail::from("unread")),
+    }
+}
+
+/// A file without a module's header, that is neither a library nor an archive, is read as far as the longest record
+/// reaches.
+#[test]
+fn of_a_foreign_file_one_record_is_read(rt: HostRuntime) -> Result<(), Fail> {
+    let page = Page::blank(rt.alloc(), "", 2_000);
+    let count = Count::new();
+    for (first, wanted) in [
+        (0x80, 70_000),
+        (0x82, 70_000),
+        (0xF0, 70_000),
+        (0x7F, 65_538),
+        (0x00, 65_538),
+    ] {
+        let length = length_read(rt.alloc(), &page, &count, first)?;
+        is(length == wanted, true, "another length")?;
+    }
+    Ok(())
 }
 
 /// The files at these paths.
@@ -238,6 +330,14 @@ fn standing(alloc: Global, page: &Page<'_>, count: &Count) -> Result<(), Fail> {
         ("NEW", "./NEW", true),
         ("NEW", "sub/NEW", false),
         ("ZERO", "ZERO.LIB", false),
+        ("PIPE", "ZERO", false),
+        ("PIPE", "A.OBJ", false),
+        ("NEW", ".\\NEW", true),
+        ("sub/NEW", "sub\\NEW", true),
+        ("sub/NEW", "NEW", false),
+        ("./a:b", "a:b", true),
+        ("a\\b", "./a\\b", true),
+        ("c\\b", "b", false),
         ("NEW", "A.OBJ", false),
     ] {
         is(is_one_place(&desk, one, other), wanted, other)?;

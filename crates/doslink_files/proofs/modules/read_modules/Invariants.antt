@@ -1,5 +1,7 @@
-use Rattle.std.specs.Io.KnownBytes.{Consumes}
+use Rattle.doslink_files.proofs.Parts.{IsKnown, IsRead}
 use Rattle.doslink_files.proofs.modules.read_modules.Given as goal
 
 abbrev pub invariant-loop : goal.invariant-loop
-invariant-loop g l = Consumes (g.R.Read.remaining l.fn.file) (g.R.Read.remaining l.file) l.bytes.items
+invariant-loop g l =
+    let told = g.R.Read.remaining l.fn.file in
+    IsKnown told × IsRead told (g.R.Read.remaining l.file) l.bytes.items l.more
