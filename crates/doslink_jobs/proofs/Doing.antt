@@ -1,7 +1,7 @@
 -- What was done, step by step.
 use Rattle.std.proofs.Common.{◌≡◌, ℕ, List, [], ◌∷◌, length, arith, map, Result, Ok, Err}
 use Rattle.std.proofs.Common.{◌==◌, ◌≢◌, true≢false, false, MatchResult, Bool, refl, sym, subst, ap, ◌∙◌}
-use Rattle.std.proofs.Common.{inl, inr}
+use Rattle.std.proofs.Common.{Any, inl, inr}
 use Rattle.std.specs.declared.option.Option.{Option}
 use Rattle.omf_communal.specs.Deciding.{Variable}
 use Rattle.omf_module.specs.Module as omf
@@ -16,7 +16,7 @@ use Rattle.doslink_jobs.specs.Communals.{AreVariablesOf}
 use Rattle.doslink_jobs.specs.Jobs.{AreInputsOf, EndsWith, IsDone, IsLinkOf, names_of, taking_for}
 use Rattle.doslink_jobs.specs.Meant.{AreMeant}
 use Rattle.doslink_jobs.specs.Places.{map_path, out_path}
-use Rattle.doslink_jobs.specs.Refusals.{AreMissingOf, IsRefusedJob, IsRefusedOf}
+use Rattle.doslink_jobs.specs.Refusals.{AreMissingOf, IsFaulty, IsRefusedJob, IsRefusedOf}
 use Rattle.doslink_jobs.specs.Runs.{AskForNone, EndsBy}
 use Rattle.doslink_jobs.specs.Wrong.{AreApart, EndsJob, IsNamedWell, IsWrongJob}
 use Rattle.omf_files.specs.declared.world.Looked.{Looked}
@@ -82,11 +82,22 @@ pub missing-with : (A : Type 0) (job : Job) (names : Names) (modules : List Held
 missing-with A job names modules vs says own same all mine are missing = (
   modules,
   refl,
-  inr (
+  inr (inr (
     vs,
     subst (λ n. AreVariablesOf n modules vs) same are,
     inl (subst (λ o. AreMissingOf job (map needs modules) o) mine (subst (λ s. AreMissingOf job s own) all missing)),
-  ),
+  )),
+)
+
+-- nor where one of them is faulty
+pub faulty-with : (A : Type 0) (job : Job) (modules : List Held) (says : List Module) (own : List (List ℕ))
+    → says ≡ map needs modules → own ≡ map (λ m. m.bytes) modules → Any (IsFaulty job says own) own
+    → IsRefusedOf A job (λ ms. ms ≡ modules)
+faulty-with A job modules says own all mine faulty = (
+  modules,
+  refl,
+  inl (subst (λ o. Any (IsFaulty job (map needs modules) o) o) mine
+      (subst (λ s. Any (IsFaulty job s own) own) all faulty)),
 )
 
 -- nor where they can't be linked with these variables
@@ -97,13 +108,13 @@ pub refused-with : (A : Type 0) (job : Job) (names : Names) (marks : Bool) (modu
 refused-with A job names marks modules vs says same all are wants refused = (
   modules,
   refl,
-  inr (
+  inr (inr (
     vs,
     subst (λ n. AreVariablesOf n modules vs) same are,
     inr (subst (λ m. IsRefusedWith A job (map needs modules) m modules vs)
         (wants ∙ ap (wants_marks (names_of job.ignore_case)) all)
         (subst (λ s. IsRefusedWith A job s marks modules vs) all refused)),
-  ),
+  )),
 )
 
 -- a run ends well only where what it does holds, refuses only where that holds by which it does, and says that words

@@ -127,8 +127,8 @@ sought_of (input.Library name) = sought.Library name
 abbrev pub library_folders : (folders : List Text) → Job → List Text
 library_folders folders job = texts job.folders.items ++ folders
 
--- these are the files that are given to the link: those that a job names, and behind them the one of what it says of
--- names
+-- these are the files that are given to the link: those that a job names, but for libraries that stand there already,
+-- and behind them the one of what it says of names
 abbrev pub AreGiven : (told : Text → Option (List ℕ)) → (folders : List Text) → Job → (given : List (List ℕ)) → Type 0
 AreGiven told folders job given =
     (files : List (List ℕ))

@@ -174,12 +174,19 @@ AreRefusedWith A job modules vs =
     ⊎ ((linked : List (List ℕ)) × AreInputsOf job says (wants_marks names says) modules vs linked
     × HaveFault A job.form names (AreMeant (taking_for job says) linked) linked))
 
--- the modules that a link takes can't be linked: they don't agree on communal variables, or not with these
+-- a module among these, which a link takes, is faulty
+abbrev pub HaveFaulty : Job → (modules : List Held) → Type 0
+HaveFaulty job modules =
+    let own = map (λ m. m.bytes) modules in
+    Any (IsFaulty job (map needs modules) own) own
+
+-- the modules that a link takes can't be linked: one is faulty, they don't agree on communal variables, or not with
+-- these
 abbrev pub IsRefusedOf : (A : Type 0) → Job → (takes : List Held → Type 0) → Type 0
 IsRefusedOf A job takes =
     (modules : List Held) × takes modules
-    × (HaveNoVariables (names_of job.ignore_case) modules
-    ⊎ ((vs : List Variable) × AreVariablesOf (names_of job.ignore_case) modules vs × AreRefusedWith A job modules vs))
+    × (HaveFaulty job modules ⊎ (HaveNoVariables (names_of job.ignore_case) modules
+    ⊎ ((vs : List Variable) × AreVariablesOf (names_of job.ignore_case) modules vs × AreRefusedWith A job modules vs)))
 
 -- a library of these files is at fault
 abbrev pub HasFaultyLibrary : (rounds : List (List (List ℕ))) → Type 0

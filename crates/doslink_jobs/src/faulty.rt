@@ -1,5 +1,6 @@
-//! Modules that can't be read, where names are missing: they may be missing since they can't.
-ghost use Rattle.std.specs.Prelude.{◌≡◌, All, Any, map, MatchResult};
+//! Modules that can't be read, which are told first where they begin as no module does, and where names are missing:
+//! these may be missing since they can't.
+ghost use Rattle.std.specs.Prelude.{◌≡◌, All, Any, IfErr, map, MatchResult};
 ghost use Rattle.omf_search.specs.Results.{module_said};
 ghost use Rattle.doslink_stock.specs.Seen.{handed_held};
 ghost use Rattle.doslink_jobs.specs.Jobs.{lowering_of};
@@ -17,7 +18,8 @@ use crate::lowering::{LoweredModule, lowering_of, stop_at_record};
 use crate::stop::{Stop, stop_after};
 use crate::taking::Taken;
 use doslink_link::read_one;
-use doslink_telling::{Offering, member_word};
+use doslink_stock::Handed;
+use doslink_telling::{Offering, foreign_kind, member_word};
 use doslink_words::Job;
 use omf_faults::InputFault;
 use omf_lower::{Lowering, lower};
@@ -110,6 +112,41 @@ pub(crate) fn check_modules<'a, A: Allocator + Copy>(
     for (index, each) in taken.handed.iter().enumerate() {
         let word = taken.word(index);
         check_module(alloc, lowering, &meanings, each.entry.bytes, word, lines)?;
+    }
+    Ok(())
+}
+
+/// Whether one of the modules begins as none does.
+fn has_foreign<A: Allocator + Copy>(handed: &[Handed<'_, '_, A>]) -> bool {
+    handed
+        .iter()
+        .any(|each| foreign_kind(each.entry.bytes).is_some())
+}
+
+/// Stops at the first of the modules that begins as none does and can't be lowered, far data sharing no frame, or read,
+/// and tells what it is.
+pub(crate) fn check_foreign<'a, A: Allocator + Copy>(
+    alloc: A,
+    job: &Job<'_>,
+    taken: &Taken<'_, '_, 'a, A>,
+    says: &[Said<'_, 'a>],
+    lines: &mut Vec<u8, A>,
+) -> Result<(), Stop>
+    ensures { IfErr result (λ stop. OnInput stop (Any (IsFaulty job.now (map module_said says.now)
+        (map (λ h. (handed_held h).bytes) taken.now.handed.now))
+        (map (λ h. (handed_held h).bytes) taken.now.handed.now))) }
+{
+    if !has_foreign(taken.handed) {
+        return Ok(());
+    }
+    let aliases = aliases_of(alloc, taken)?;
+    let meanings = Meanings::new(alloc, options_of(job).names, says, aliases)?;
+    let lowering = lowering_of(job);
+    for (index, each) in taken.handed.iter().enumerate() {
+        if foreign_kind(each.entry.bytes).is_some() {
+            let word = taken.word(index);
+            check_module(alloc, lowering, &meanings, each.entry.bytes, word, lines)?;
+        }
     }
     Ok(())
 }

@@ -35,6 +35,9 @@ use omf_files::{FileId, World};
 use std::alloc::{AllocError, Allocator};
 use std::collections::BTreeSet;
 
+/// How many bytes the name of a default library has at most.
+const LONGEST_NAME: usize = 255;
+
 /// How often the search goes on with libraries that it has met, at most.
 const MOST_ROUNDS: usize = usize::MAX;
 
@@ -99,7 +102,8 @@ fn all_folders<'a, A: Allocator + Copy>(
     Ok(folders)
 }
 
-/// The files that a job names, in their order. Those that can't be read are told.
+/// The files that a job names, in their order, but for libraries that stand there already. Those that can't be read are
+/// told.
 fn given_files<W: World, A: Allocator + Copy>(
     alloc: A,
     world: &W,
@@ -270,7 +274,7 @@ fn names_of<'f, A: Allocator + Copy>(
     Ok(libraries)
 }
 
-/// The file of a default library; `Known` where it is there already.
+/// The file of a default library; `Known` where it is there already. A longer name than 255 bytes is that of none.
 fn find_one<W: World, A: Allocator + Copy>(
     alloc: A,
     world: &W,
@@ -281,12 +285,21 @@ fn find_one<W: World, A: Allocator + Copy>(
     ensures { IfOk result (IsFoundNew (W.bytes world.now) (texts folders.now) library.now.name.now) }
 {
     match str::from_utf8(library.name) {
-        Ok(name) => find_default(alloc, world, folders, name, known),
-        Err(_) => Err(ReadFault::Absent),
+        Ok(name) if name.len() <= LONGEST_NAME => find_default(alloc, world, folders, name, known),
+        _ => Err(ReadFault::Absent),
     }
 }
 
-/// Appends a default library that isn't found, or stops where a device failed or memory.
+/// Whether a look-up failed for another reason than that no regular file is there.
+fn is_there(fault: ReadFault) -> bool {
+    match fault {
+        ReadFault::Absent | ReadFault::Folder | ReadFault::Special => false,
+        ReadFault::Memory | ReadFault::Device(_) | ReadFault::Forbidden | ReadFault::Unopened(_) =>
+            true,
+    }
+}
+
+/// Appends a default library that isn't found. Stops where there is one that can't be opened or read, or no memory.
 fn pass_absent<'f, A: Allocator + Copy>(
     alloc: A,
     library: &DefaultLibrary<'f, A>,
@@ -299,7 +312,7 @@ fn pass_absent<'f, A: Allocator + Copy>(
         ≡ map library_said absent.old.items ++ library_said library.now ∷ []) }
     ensures kept { OnOk result (lines.new.items ≡ lines.old.items) }
 {
-    if matches!(fault, ReadFault::Memory | ReadFault::Device(_)) {
+    if is_there(fault) {
         let name = str::from_utf8(library.name).unwrap_or("");
         return Err(stop_unread(lines, name, fault));
     }

@@ -14,13 +14,12 @@ use crate::places::Places;
 use crate::stop::Stop;
 use doslink_files::put_file;
 use doslink_link::{Linked, Page};
-use doslink_telling::{push_fault, table};
+use doslink_telling::{push_unwritten_line, table};
 use doslink_words::{Job, MapForm};
 use link_map::{
     LinkedProgram, MapFault, MapForm as LinkerForm, Sources, write_link_map, write_numbered_map,
 };
 use omf_commands::{Report, write_map};
-use omf_faults::LinkFault;
 use omf_files::World;
 use std::alloc::{AllocError, Allocator};
 
@@ -123,7 +122,6 @@ pub fn map_bytes<A: Allocator + Copy>(
 
 /// Puts a file at a path. A failure is told.
 fn put_or_tell<W: World, A: Allocator + Copy>(
-    alloc: A,
     world: &W,
     path: &str,
     bytes: &[u8],
@@ -134,9 +132,8 @@ fn put_or_tell<W: World, A: Allocator + Copy>(
 {
     match put_file(world, path, bytes) {
         Ok(()) => Ok(()),
-        Err(_) => {
-            let failed: LinkFault<A> = LinkFault::Output;
-            push_fault(alloc, lines, &failed, path.as_bytes())?;
+        Err(error) => {
+            push_unwritten_line(lines, path, error.kind())?;
             Err(Stop::Device)
         }
     }
@@ -162,11 +159,11 @@ pub(crate) fn write_files<W: World, A: Allocator + Copy>(
 {
     let out = places.out.as_str();
     match &places.map {
-        None => put_or_tell(alloc, world, out, &linked.file, lines),
+        None => put_or_tell(world, out, &linked.file, lines),
         Some(path) => {
             let map = map_bytes(alloc, job.map_form, &linked.report, inputs, words)?;
-            put_or_tell(alloc, world, out, &linked.file, lines)?;
-            put_or_tell(alloc, world, path.as_str(), &map, lines)
+            put_or_tell(world, out, &linked.file, lines)?;
+            put_or_tell(world, path.as_str(), &map, lines)
         }
     }
 }

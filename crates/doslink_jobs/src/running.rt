@@ -22,6 +22,7 @@ ghost use Rattle.doslink_jobs.specs.inside.Stops as stops;
 ghost use Rattle.doslink_jobs.specs.inside.Stops.{OnHalt, OnInput, told_text};
 
 use crate::communals::variables_of;
+use crate::faulty::check_foreign;
 use crate::gathering::{Gathered, gather};
 use crate::inputs::{inputs_of, options_of};
 use crate::linking::write_program;
@@ -83,8 +84,9 @@ fn link_taken<'m, 'a, W: World + Copy, A: Allocator + Copy>(
         (λ ms. ms ≡ map handed_held taken.now.handed.now))
         (λ stop. OnInput stop (IsRefusedOf A job.now (λ ms. ms ≡ map handed_held taken.now.handed.now))) }
 {
-    let variables = variables_of(alloc, options_of(job).names, taken, lines)?;
     let says = handed_saids(alloc, taken.handed)?;
+    check_foreign(alloc, job, taken, &says, lines)?;
+    let variables = variables_of(alloc, options_of(job).names, taken, lines)?;
     let marks = check_names(alloc, job, gathered, taken, &says, lines)?;
     link_checked(
         alloc, world, job, places, taken, &variables, &says, marks, lines,

@@ -82,6 +82,25 @@ abbrev pub unread_line : (name : List ℕ) → ReadFault → List ℕ
 unread_line name fault = concat (codes "doslink: " ∷ name ∷ codes ": 1 Device at record 0: " ∷ unread_text fault
     ∷ codes "\n" ∷ [])
 
+-- why a file isn't written
+abbrev pub unwritten_text : ErrorKind → List ℕ
+unwritten_text error.NotFound = codes "no such folder"
+unwritten_text error.NotADirectory = codes "no such folder"
+unwritten_text error.PermissionDenied = codes "no permission"
+unwritten_text error.IsADirectory = codes "it is a folder"
+unwritten_text error.AlreadyExists = codes "it was just written"
+unwritten_text error.StorageFull = codes "no space is left"
+unwritten_text error.QuotaExceeded = codes "no space is left"
+unwritten_text error.BrokenPipe = codes "nobody reads it any more"
+unwritten_text error.InvalidData = codes "two names there differ by case alone"
+unwritten_text error.OutOfMemory = codes "out of memory"
+unwritten_text kind = system_text kind (codes "it can't be written")
+
+-- the line of a file at a path that can't be written
+abbrev pub unwritten_line : (path : List ℕ) → ErrorKind → List ℕ
+unwritten_line path kind = concat (codes "doslink: " ∷ path ∷ codes ": 40 Device: " ∷ unwritten_text kind
+    ∷ codes "\n" ∷ [])
+
 -- the label of a fault of a library
 abbrev pub format_label : FormatFault → ℕ × List ℕ
 format_label format.PageSize = (42, codes "PageSize")

@@ -71,6 +71,41 @@ pub fn push_unread_line<'p, A: Allocator + Copy>(
     push_parts(lines, parts.as_slice())
 }
 
+/// Why a file isn't written. `AlreadyExists` is that the path leads to one that was just written.
+fn unwritten_text(kind: ErrorKind) -> &'static str
+    ensures { result.now ≡ spec.unwritten_text kind }
+{
+    match kind {
+        ErrorKind::NotFound | ErrorKind::NotADirectory => "no such folder",
+        ErrorKind::PermissionDenied => "no permission",
+        ErrorKind::IsADirectory => "it is a folder",
+        ErrorKind::AlreadyExists => "it was just written",
+        ErrorKind::StorageFull | ErrorKind::QuotaExceeded => "no space is left",
+        ErrorKind::BrokenPipe => "nobody reads it any more",
+        ErrorKind::InvalidData => "two names there differ by case alone",
+        ErrorKind::OutOfMemory => "out of memory",
+        kind => system_text(kind, "it can't be written"),
+    }
+}
+
+/// Appends the line of a file at a path that can't be written, and why.
+pub fn push_unwritten_line<'p, A: Allocator + Copy>(
+    lines: &mut Vec<u8, A>,
+    path: &'p str,
+    kind: ErrorKind,
+) -> Result<(), AllocError>
+    ensures { OnOk result (lines.new.items ≡ lines.old.items ++ spec.unwritten_line path.now kind) }
+{
+    let parts = [
+        Part::Text("doslink: "),
+        Part::Text(path),
+        Part::Text(": 40 Device: "),
+        Part::Text(unwritten_text(kind)),
+        Part::Text("\n"),
+    ];
+    push_parts(lines, parts.as_slice())
+}
+
 /// The number and the name that a fault of a library is printed with.
 fn format_label(fault: FormatFault) -> (u8, &'static str)
     ensures number { result.0 ≡ (spec.format_label fault).0 }

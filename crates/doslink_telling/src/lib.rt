@@ -19,7 +19,8 @@ pub use communals::{push_clash, push_entry_fault, push_unplaced};
 pub use duplicates::push_duplicates;
 pub use faults::{
     push_absent_line, push_endless_alias, push_fault, push_obstacle, push_order_line,
-    push_overflow, push_path_line, push_stock_fault, push_unread_line, push_wide_line,
+    push_overflow, push_path_line, push_stock_fault, push_unread_line, push_unwritten_line,
+    push_wide_line,
 };
 pub use kinds::{Foreign, foreign_kind, push_foreign};
 pub use mapping::table;

@@ -7,7 +7,7 @@ pub(crate) struct Front<'f> {
     pub link: &'f str,
     /// TLINK.CFG, where it is there.
     pub files: &'f [(&'f str, &'f [u8])],
-    /// The same, where it can't be opened.
+    /// Files that are there and can't be opened.
     pub locked: &'f [&'f str],
 }
 

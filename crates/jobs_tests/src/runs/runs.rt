@@ -442,6 +442,17 @@ fn tlink_cfg_that_cannot_be_opened_is_told(rt: HostRuntime) -> Result<(), Fail> 
 }
 
 #[test]
+fn default_library_that_cannot_be_opened_is_told(rt: HostRuntime) -> Result<(), Fail> {
+    let front = Front {
+        link: "",
+        files: &[],
+        locked: &["NONE.LIB"],
+    };
+    let row = "doslink E.OBJ|3||doslink: NONE: 1 Device at record 0: no permission~";
+    check_front(&rt, rt.alloc(), front, row)
+}
+
+#[test]
 fn lines_write_these_files(rt: HostRuntime) -> Result<(), Fail> {
     for (row, path, bytes) in &LINED {
         let done = run_row(rt.alloc(), row, path)?;

@@ -214,6 +214,9 @@ doslink DEVICE.OBJ F.OBJ|0||doslink: warning: library \"DEVICE\" of DEVICE.OBJ w
 /// Runs that are refused by what their files are, in the same form.
 pub(crate) const REFUSED_RUNS: &str = "\
 doslink A.OBJ ELF.OBJ|1||doslink: ELF.OBJ: 3 Truncated at record 0: this is an ELF file; nasm wants -f obj~
+doslink ITSELF.OBJ ELF.OBJ|1||doslink: ELF.OBJ: 3 Truncated at record 0: this is an ELF file; nasm wants -f obj~
+doslink NEAR.OBJ FAR.OBJ TEXT.OBJ ELF.OBJ|1||\
+doslink: TEXT.OBJ: 3 Truncated at record 0: this is a text; assemble or compile it first~
 doslink A.OBJ TEXT.OBJ|1||doslink: TEXT.OBJ: 3 Truncated at record 0: this is a text; assemble or compile it first~
 doslink RUN.LIB|1||doslink: link: 67 NoProgram~
 doslink NOTHING.OBJ|1||doslink: link: 67 NoProgram~
