@@ -6,6 +6,14 @@ use crate::paths::with_slashes;
 use std::fs;
 use std::io::{self, Error, ErrorKind};
 
+/// How many names a path has at most that are looked for without regard to case.
+const MOST_NAMES: usize = 64;
+
+/// Whether a path has more names.
+fn has_more_names(path: &str) -> bool {
+    path.as_bytes().iter().filter(|byte| **byte == b'/').count() >= MOST_NAMES
+}
+
 /// Whether something stands at a path, and be it a link that leads nowhere.
 fn stands_at(rt: &HostRuntime, path: &str) -> bool {
     fs::symlink_metadata(rt, path).is_ok()
@@ -35,7 +43,7 @@ fn meant_in(
 
 /// The path of what is meant by a path of DOS: with `/` for `\`, and as it is written where something stands there.
 /// Else each of its names in turn means what it does in the folder before it, and from the first that means nothing
-/// there, all are as they are written.
+/// there, all are as they are written; so are those of a path of more than 64, since each is looked for by all before.
 ///
 /// # Errors
 /// Want of memory. `InvalidData`, where nothing stands at a name as it is written, and two names of its folder are the
@@ -46,7 +54,7 @@ pub(crate) fn path_meant(
     path: &str,
 ) -> io::Result<String> {
     let written = with_slashes(rt.alloc(), path)?;
-    if stands_at(rt, written.as_str()) {
+    if has_more_names(written.as_str()) || stands_at(rt, written.as_str()) {
         return Ok(written);
     }
     let (mut made, mut stands) = (String::new(rt.alloc()), true);
