@@ -336,9 +336,11 @@ def archive(names_table, members):
     return front + b"".join(archive_member("/0", content) for content in members)
 
 
-def defining_module(text):
+def defining_module(text, records=b""):
     """A module that defines a name, and has four bytes."""
-    return header("defining") + names("CODE", "CODE") + segment(4) + publics({text: 0}) + data(1, 0, bytes(4)) + end()
+    return (
+        header("defining") + names("CODE", "CODE") + segment(4) + publics({text: 0}) + records + data(1, 0, bytes(4))
+        + end())
 
 
 def archive_of_one_name(count):
@@ -394,6 +396,17 @@ def library_chain(count):
     return Inputs(main.modules, 4 * (count + 1), count, files=files)
 
 
+def unkind_library_chain(count):
+    """A module that wants names, and libraries that name one another, each of which has the last name that is open."""
+    wanted = [f"_{number}" for number in range(1, count + 1)]
+    main = renaming_module("_0", wanted, naming_libraries(["L1"]))
+    files = {
+        f"L{number}.LIB": library([defining_module(wanted[-number], naming_libraries([f"L{number + 1}"]))])
+        for number in range(1, count)}
+    files[f"L{count}.LIB"] = library([defining_module(wanted[0])])
+    return Inputs(main.modules, 4 * (count + 1), 1, files=files)
+
+
 def without_start(module):
     """A module that ends as no main one does."""
     return module[: -len(main_end())] + end()
@@ -419,11 +432,31 @@ def spellings_of_this_folder(count):
     return ["".join("./" if number >> bit & 1 else ".//" for bit in range(13)) for number in range(count)]
 
 
+def library_named(folders, members):
+    """A module, and a library of these members that is named in each of these folders."""
+    main = renaming_module("_main", ["_main"])
+    words = tuple(word for text in folders for word in ("-l", f"{text}L.LIB"))
+    return Inputs(main.modules, main.size, main.relocations, files={"L.LIB": library(members)}, words=words)
+
+
 def library_of_spellings(count):
     """A module, and a library by as many spellings of its path."""
-    main = renaming_module("_main", ["_main"])
-    words = tuple(word for text in spellings_of_this_folder(count) for word in ("-l", f"{text}L.LIB"))
-    return Inputs(main.modules, main.size, main.relocations, files={"L.LIB": library([end_only()])}, words=words)
+    return library_named(spellings_of_this_folder(count), [end_only()])
+
+
+def some_members():
+    """Members of which nothing is wanted."""
+    return [defining_module(f"_{number}") for number in range(200)]
+
+
+def long_library_of_spellings(count):
+    """A module, and a library of some members by as many spellings of its path."""
+    return library_named(spellings_of_this_folder(count), some_members())
+
+
+def library_named_again(count):
+    """A module, and a library of some members that is named so often."""
+    return library_named([""] * count, some_members())
 
 
 def end_only():

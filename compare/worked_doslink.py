@@ -691,7 +691,7 @@ SPOKEN = [
      "doslink: warning: f\\p.IMG: an EXE file is written: output raw makes a raw image\n"
      "doslink: none.obj: 1 Device at record 0: no such file\n"),
     (["file", "absolute.obj", "name", "p.com", "format", "dos", "exe"], ""),
-    (["file", "absolute.obj", "name", "p.bin/p"], "doslink: p.bin/p.exe: 40 Device\n"),
+    (["file", "absolute.obj", "name", "p.bin/p"], "doslink: p.bin/p.exe: 40 Device: no such folder\n"),
     # names of DOS: of a file of directives, modules, a library and the program
     (["@F\\job", "file", "M.OBJ", "library", "F\\l"], ""),
     (["file", "TWICE.OBJ", "name", "p"],

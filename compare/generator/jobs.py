@@ -136,7 +136,7 @@ NEGATIVE_EVERY, LAST_PLACES, CUT_EVERY = 250, [1021, 1022], 250
 WHOLE_EVERY, WHOLE = 125, [b"\x29\0\0\1\0", b"\x2B\0\0\0\0", b"\x29\1\0\1\0"]
 FLAT = [
     "frame", "target", "frame thread", "target thread", "start", "kept out", "nothing",
-    "other group", "other case"]
+    "other group", "other case", "publics", "local publics", "publics of another group"]
 # one wants some marks, and has so many bytes in its data, its BSS or its stack
 MARKS_EVERY, CLEARED = 50, [
     (MARKS, 2, 1), (MARKS, 2, 0), (MARKS, 1, 1), (MARKS, 3, 1), (MARKS[:1], 2, 1),
@@ -183,7 +183,8 @@ LINES_OF_NOTHING = [
     "op q", "alias %s=x" % (255 * "n"), "libpath {x, y}", "libp {z}", "path x", "reference {}", "libpath {}"]
 LEFT_OUT = [
     "option symfile", "sort global", "disable 1014", "option symfile=out.sym", "op CACHE",
-    "option quiet,verbose", "option map, showdead", "option mangled", "op man", "OPTION NoFarCalls", "sort glob alpha disable 1, 2",
+    "option quiet,verbose", "option map, showdead", "option mangled", "op man", "OPTION NoFarCalls",
+    "sort glob alpha disable 1, 2",
     "d watcom lines, types\noption quiet,\n symf", "op v # option verbose", "option artificial", "op art, stat",
     "option cache=x", "option farcalls", "op maxe=3", "op sho, verb", "option nocache", "option noc=1", "sort gl alp",
     "sort alphabetical"]
@@ -196,7 +197,8 @@ ENDED_WORDS = [
     ["file 0.obj name o.exe op dos, nod"], ["file 0.obj name o.exe option nodefaultlibs"], ["file 0.obj option map"]]
 # files of directives, of which some are called otherwise than a word says, or have a Ctrl-Z
 SPOKEN_FILES = {
-    "ending.lnk": b"file 0.obj name o.exe\n", "both": b"file 0.obj name o.exe\n", "both.lnk": b"file 0.obj name p.exe\n",
+    "ending.lnk": b"file 0.obj name o.exe\n", "both": b"file 0.obj name o.exe\n",
+    "both.lnk": b"file 0.obj name p.exe\n",
     "dot.x.lnk": b"file 0.obj name o.exe\n", "a.b/ending.lnk": b"file 0.obj name o.exe\n", "folder/x": b"name p",
     "folder.lnk": b"file 0.obj name o.exe\n", "ended": b"file 0.obj name o.exe\n\x1Aname p.exe\n\x1A",
     "ended.lnk": b"", "cut": b"file 0.obj\x1A 'x\xE9", "none": b"\x1Aname p.exe",

@@ -799,20 +799,26 @@ def module_of_no_alignment(kind):
         spelling.record(records.ModuleEnd(False, None))])
 
 
+# the type of public names, and the index of their base group
+FLAT_PUBLICS = {"publics": (0x90, 1), "local publics": (0xB6, 1), "publics of another group": (0x90, 2)}
+
+
 def module_of_flat(use):
     """A module with a group FLAT, whose frame something has, or nothing, or another group."""
     spelling = records.Spelling()
     group = b"flat" if use == "other case" else b"FLAT"
     fixups = {
         "target": b"\xC4\0\x55\1", "frame thread": b"\x44\1\xC4\0\x84\1",
-        "target thread": b"\4\1\xC4\0\x5C", "start": b"", "nothing": b"",
-        "other group": b"\xC4\0\x14\2\1"}
+        "target thread": b"\4\1\xC4\0\x5C", "other group": b"\xC4\0\x14\2\1",
+        **dict.fromkeys(["start", "nothing", *FLAT_PUBLICS], b"")}
     end = b"\xC1\x10\1\1\0\0" if use == "start" else b"\0"
+    kind, base = FLAT_PUBLICS.get(use, (0x90, 0))
+    publics = spelling.framed(kind, bytes([base]) + b"\1\6_bases\0\0\0")
     return b"".join([
         spelling.record(records.Header(b"FLAT")),
         spelling.record(records.NameList([b"", b"CODE", group, b"DWARF", GROUP])),
         spelling.framed(0x98, b"\x28\4\0\2\2\1"), spelling.framed(0x98, b"\x28\4\0\4\4\1"),
-        spelling.framed(0x9A, b"\3"), spelling.framed(0x9A, b"\5\xFF\1"),
+        spelling.framed(0x9A, b"\3"), spelling.framed(0x9A, b"\5\xFF\1"), publics,
         spelling.framed(0xA0, (b"\2" if use == "kept out" else b"\1") + bytes(6)),
         spelling.framed(0x9C, fixups.get(use, b"\xC4\0\x14\1\1")), spelling.framed(0x8A, end)])
 

@@ -45,6 +45,9 @@ STANDARD_OUTPUT, OUTPUT_PATH = "-", "/dev/stdout"
 MARKS = [*ordering.BEGIN_MARKS, *ordering.END_MARKS]
 # the statuses where the job is at fault, and where what is asked for is wrong
 INPUT, WRONG_WORDS, NO_DEVICE = 1, 2, 3
+# how long the name of a default library may be
+LONGEST_NAME = 255
+TWO_NAMES = "two names there differ by case alone"
 
 
 class Stop(Exception):
@@ -175,10 +178,20 @@ def why_unread(paths, files):
     is_folder, has_two = (getattr(files, name, nowhere) for name in ("is_folder", "has_two"))
     for path in reversed(paths):
         if has_two(path):
-            return "two names there differ by case alone"
+            return TWO_NAMES
         if is_folder(path):
             return "it is a folder"
     return "no such file"
+
+
+def why_unwritten(path, files, is_free):
+    """What is said where no file can be made at a path; it is free where none was just written there."""
+    is_folder, has_two = (getattr(files, name, nowhere) for name in ("is_folder", "has_two"))
+    if has_two(path):
+        return TWO_NAMES
+    if not is_free:
+        return "it was just written"
+    return "it is a folder" if is_folder(path) else "no such folder"
 
 
 def looked_path(path):
@@ -232,6 +245,7 @@ class Linking:
             self.absent.clear()
         out, map_path = self.places()
         self.tell()
+        self.check_foreign()
         variables = communal.variables(self.taken, self.key)
         self.check_names(variables)
         program = self.linked(variables)
@@ -314,10 +328,14 @@ class Linking:
         return name.decode("latin1").lower().removesuffix(".lib") in left_out
 
     def add_default_library(self, name, word):
+        """One that is there and can't be opened is a fault; no file has a name of more than 255 bytes."""
         try:
-            path = self.found(library_paths(name.decode(), self.library_folders()))
+            paths = library_paths(name.decode(), self.library_folders()) if len(name) <= LONGEST_NAME else []
         except UnicodeDecodeError:
-            path = None
+            paths = []
+        path, why = self.found(paths), why_unread(paths, self.files)
+        if path is None and why == TWO_NAMES:
+            raise Stop(NO_DEVICE, 1, [f"{name.decode()}: 1 Device at record 0: {why}"])
         if path is None:
             self.absent.append(
                 f"{PROGRAM}: warning: library {printed_name(name)} of {word} was not found\n")
@@ -444,6 +462,13 @@ class Linking:
                 like_of = [*self.taken, *members][each.like_of].word
                 line += f"; {printed_name(each.like)} is in {like_of}"
             yield each.name, line
+
+    def check_foreign(self):
+        """The first file or member that begins as no module does has its own fault."""
+        places = [place for place, each in enumerate(self.taken) if foreign.kind_of(each.content) is not None]
+        means = plain_meanings(self.taken, [], self.key) if places else []
+        for place in places:
+            self.check_module(self.taken[place], means[place])
 
     def check_modules(self, variables):
         """The first module that can't be lowered or read has its own fault."""
@@ -668,7 +693,7 @@ class Linking:
             # a raw image from behind the program's end has no byte, and is a file all the same
             self.answer.files.setdefault(path, b"")
         except Fault as fault:
-            fault.owner = path
+            fault.owner, fault.why = path, why_unwritten(path, self.files, is_free)
             raise
 
 

@@ -19,6 +19,8 @@ SEGMENTS, DATA = (0x98, 0x99), (0xA0, 0xA1, 0xA2, 0xA3)
 REPEATED = (0xA2, 0xA3)
 FIXUPS, COMMUNAL_DATA = (0x9C, 0x9D), (0xC2, 0xC3)
 PUBLICS_32, LINES_32, END_32 = (0x91, 0xB7), 0x95, 0x8B
+# public names, and those that are local
+PUBLICS = (0x90, 0x91, 0xB6, 0xB7)
 # local communal variables, and local externals, which they become
 LOCAL_COMMUNALS, LOCAL_EXTERNALS = 0xB8, 0xB4
 COMMUNAL_EXTERNALS, EXTERNALS = 0xBC, 0x8C
@@ -181,6 +183,14 @@ def groups_of_start(body, width):
         return []
 
 
+def base_groups(body):
+    """The index of the group that is the base of public names, as far as it is whole."""
+    try:
+        return [Entries(body).index()]
+    except Ended:
+        return []
+
+
 def location_of(first):
     """The location of a fix-up with this first byte."""
     return first >> 2 & 15
@@ -264,6 +274,8 @@ class Lowering:
             self.add_names(Entries(body))
         if kind == GROUPS:
             self.add_group(Entries(body))
+        if kind in PUBLICS:
+            self.refuse_flat(base_groups(body))
         if kind in ENDS and body[:1] and body[0] & HAS_START:
             self.refuse_flat(groups_of_start(body, width_of(kind)))
         try:

@@ -139,11 +139,11 @@ class DosFiles:
         return normpath(self.meant(path) or path)
 
     def is_told_by(self, path):
-        """What paths to one file have in common before it is written: of what isn't there yet the name behind the
-        last `/` counts as it is written."""
+        """What paths to one file have in common before it is written: of what isn't there yet the name behind its
+        folder counts as it is written."""
         if self.get(path) is not None:
             return self.place(path)
-        folder, _, name = path.rpartition("/")
+        folder, _, name = path.replace("\\", "/").rpartition("/")
         return join(self.place(folder or HERE), name)
 
     def becomes(self, path):
