@@ -1959,7 +1959,7 @@ FILES_OF_LINES = [
     Change("case of letters that aren't of ASCII counts for nothing", "places.py",
            "return name.encode().lower().decode()", "return name.lower()"),
     Change("a backslash is a letter of a name of a file", "places.py",
-           """in path.replace("\\\\", "/").split("/"):""", """in path.split("/"):"""),
+           """path.replace("\\\\", "/").split("/"), []""", """path.split("/"), []"""),
     Change("case counts in folders of files", "places.py",
            "meant_name(self.files.names_in(front), name)",
            "meant_name(self.files.names_in(front) if path.endswith(name) else (), name)"),

@@ -5,6 +5,8 @@ from os.path import join, normpath, split
 from pathlib import PurePosixPath
 
 HERE = "."
+# how many names of a path are looked for at most
+MOST_NAMES = 64
 
 
 def folders_of(paths):
@@ -104,10 +106,12 @@ class DosFiles:
     def meant(self, path):
         """The system's path that is meant, or None where two names of a folder may be.
 
-        So it is the path as it is written where something stands there.
+        So it is the path as it is written where something stands there, or where it has too many names.
         """
-        found = []
-        for name in path.replace("\\", "/").split("/"):
+        names, found = path.replace("\\", "/").split("/"), []
+        if len(names) > MOST_NAMES:
+            return "/".join(names)
+        for name in names:
             front = "/".join([*found, ""])
             found.append(meant_name(self.files.names_in(front), name))
             if found[-1] is None:
