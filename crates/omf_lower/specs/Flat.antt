@@ -1,7 +1,7 @@
 -- What counts from the group FLAT, which stands for all memory from 0 on in protected mode (TIS OMF 1.1, "Group
 -- Definition Record", the pseudogroup FLAT). To define it says nothing: what names it does.
-use Rattle.std.specs.Prelude.{ℕ, zero, suc, ◌/◌, ◌%◌, ◌==◌, ◌&&◌, ◌||◌, Bool, false, not, if◌then◌else◌, nat_lt, List, []}
-use Rattle.std.specs.Prelude.{◌∷◌, codes, slice_index_or, None}
+use Rattle.std.specs.Prelude.{ℕ, zero, suc, ◌/◌, ◌%◌, ◌==◌, ◌&&◌, ◌||◌, Bool, false, not, if◌then◌else◌, nat_lt, List}
+use Rattle.std.specs.Prelude.{[], ◌∷◌, codes, slice_index_or, None}
 use Rattle.std.specs.declared.option.Option.{Option}
 use Rattle.std.specs.Option.{option_map, option_map_or}
 use Rattle.std.specs.Str.{bytes_eq}
@@ -60,8 +60,8 @@ abbrev pub fixup_is_flat : List Bool → List ℕ → Bool
 fixup_is_flat groups (low ∷ fix_data ∷ bytes) = reference_is_flat groups fix_data bytes
 fixup_is_flat groups _ = false
 
--- A subrecord with this first byte, which is a thread below 80H, is FLAT. Threads stay where the data in front of them is
--- kept out, since later fix-ups may use them, and fix-ups are dropped with it.
+-- A subrecord with this first byte, which is a thread below 80H, is FLAT. Threads stay where the data in front of them
+-- is kept out, since later fix-ups may use them, and fix-ups are dropped with it.
 abbrev pub subrecord_is_flat : List Bool → (dropped : Bool) → ℕ → List ℕ → Bool
 subrecord_is_flat groups dropped first bytes =
     if nat_lt first 128 then is_group_thread first && front_is_flat groups bytes

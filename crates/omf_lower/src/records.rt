@@ -242,8 +242,8 @@ fn recipe_by_type<'a, A: Allocator + Copy>(
     }
 }
 
-/// Whether the group FLAT is named: as the base of public names, by a start, by a thread, or by a fix-up of data that is
-/// kept.
+/// Whether the group FLAT is named: as the base of public names, by a start, by a thread, or by a fix-up of data that
+/// is kept.
 fn names_flat<A: Allocator + Copy>(seen: &Seen<'_, A>, frame: &Frame<'_>) -> bool
     ensures { result ≡ records.names_flat (seen_view seen.now) (plain_frame frame.now) }
 {

@@ -8,6 +8,6 @@ loop-is_flat-init c = any_first (flat_front c.args.groups.now c.args.dropped c.a
 
 pub loop-is_flat-preserved : goal.loop-is_flat-preserved
 loop-is_flat-preserved c =
-    any_more (flat_front c.args.groups.now c.args.dropped c.args.width) c.args.bytes.now c.loop-is_flat.rest.now c.in-Some.after.now
-    c.in-Some.is_flat
+    any_more (flat_front c.args.groups.now c.args.dropped c.args.width) c.args.bytes.now c.loop-is_flat.rest.now
+    c.in-Some.after.now c.in-Some.is_flat
     c.loop-is_flat.invariant c.in-Some.ensures.shorter (sym c.in-Some.ensures.said) c.if-is_flat.false
