@@ -1,4 +1,4 @@
--- The first of the faults of a .COM file, by what stands.
+-- The first of the faults of a .COM file, and of one segment, by what stands.
 use Rattle.std.proofs.Common.{◌≡◌, ◌==◌, ℕ, Bool, true, false, List, [], ◌∷◌, length, Option, Some, None, refl, sym, ap}
 use Rattle.std.proofs.Common.{◌∙◌}
 use Rattle.std.proofs.Common.{arith, ◌&&◌, not}
@@ -11,7 +11,7 @@ use Rattle.omf_place.specs.Layout.{Layout}
 use Rattle.omf_image.specs.Program.{Program}
 use Rattle.omf_image.specs.Registers.{stack}
 use Rattle.flat_file.specs.Covered.{first_covered}
-use Rattle.flat_file.specs.Forms.{com_fault, has_relocations}
+use Rattle.flat_file.specs.Forms.{com_fault, has_relocations, one_segment_fault}
 use Rattle.flat_file.specs.declared.fault.FormFault.{FormFault}
 use Rattle.flat_file.specs.declared.fault.FormFault.TheVariants.{Relocated, StackSegment, OtherStart, DataBelow}
 use Rattle.flat_file.specs.declared.fault.FormFault.TheVariants.{TooLong}
@@ -101,3 +101,43 @@ none_relocated layout modules p none =
     (none_of (has_relocations p) (is_some (stack layout modules))
     (not (p.registers.cs == 0 && p.registers.ip == 256)) (nat_lt (first_covered layout modules) 256)
     (nat_lt 65536 (length p.image)) none).relocated
+
+-- ---- of one segment
+
+-- the first of three
+abbrev pub first_of_three : (r s l : Bool) → Option FormFault
+first_of_three r s l = first (then_some r Relocated ∷ then_some s StackSegment ∷ then_some l TooLong ∷ [])
+
+pub segment_relocated : (r s l : Bool) → r ≡ true → Some Relocated ≡ first_of_three r s l
+segment_relocated true s l h = refl
+segment_relocated false s l h = cc
+
+pub segment_stack : (r s l : Bool) → r ≡ false → s ≡ true → Some StackSegment ≡ first_of_three r s l
+segment_stack true s l h i = cc
+segment_stack false true l h i = refl
+segment_stack false false l h i = cc
+
+pub segment_too_long : (r s l : Bool) → r ≡ false → s ≡ false → l ≡ true → Some TooLong ≡ first_of_three r s l
+segment_too_long true s l h i j = cc
+segment_too_long false true l h i j = cc
+segment_too_long false false true h i j = refl
+segment_too_long false false false h i j = cc
+
+pub segment_no_fault : (r s l : Bool) → r ≡ false → s ≡ false → l ≡ false → None ≡ first_of_three r s l
+segment_no_fault true s l h i j = cc
+segment_no_fault false true l h i j = cc
+segment_no_fault false false true h i j = cc
+segment_no_fault false false false h i j = refl
+
+-- without a fault no word is relocated, and the program is no longer than a segment
+none_of_three : (r s l : Bool) → first_of_three r s l ≡ None → (r ≡ false) × (l ≡ false)
+none_of_three true s l h = cc
+none_of_three false true l h = cc
+none_of_three false false true h = cc
+none_of_three false false false h = (refl, refl)
+
+pub segment_fits : (layout : Layout) (modules : List Module) (p : Program) → one_segment_fault layout modules p ≡ None
+    → (has_relocations p ≡ false) × (nat_lt 65536 (length p.image) ≡ false)
+unfolding one_segment_fault
+segment_fits layout modules p none =
+    none_of_three (has_relocations p) (is_some (stack layout modules)) (nat_lt 65536 (length p.image)) none

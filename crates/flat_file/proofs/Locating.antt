@@ -5,7 +5,7 @@ use Rattle.std.proofs.Common.{take, drop, length, get_or, slice_get, Option, Som
 use Rattle.std.specs.Bool.{then_some}
 use Rattle.flat_file.specs.declared.fault.FormFault.TheVariants.{DataBelow, Relocated}
 use Rattle.std.specs.Prelude.{nat_lt, is_some, IsTrue}
-use Rattle.std.proofs.lemmas.Bool.{and_parts, eqb-true, ltb-false, true≢false}
+use Rattle.std.proofs.lemmas.Bool.{and_parts, cond-false, cond-true, eqb-true, ltb-false, true≢false}
 use Rattle.std.proofs.lemmas.List.{get_or-drop, get_or-take, length-drop, length-take}
 use Rattle.std.proofs.lemmas.Option.{slice_get-get_or}
 use Rattle.omf_module.specs.Module.{Module}
@@ -18,12 +18,13 @@ use Rattle.omf_image.specs.Records.{entries, program_byte, written}
 use Rattle.omf_image.specs.Registers.{registers, stack, stack_of}
 use Rattle.omf_image.specs.Words.{add_words}
 use Rattle.flat_file.specs.Covered.{is_covered, first_covered, memory_len}
-use Rattle.flat_file.specs.Forms.{bin_bytes, com_bytes, com_fault, raw_fault, sys_bytes, sys_fault, has_relocations}
-use Rattle.flat_file.specs.Com.{loaded, loading}
-use Rattle.flat_file.specs.Laws.{IsLocatedCom, IsLocatedFrom, IsWholeFrom}
+use Rattle.flat_file.specs.Forms.{bin_bytes, com_bytes, com_fault, from_start_bytes, from_start_fault, has_relocations}
+use Rattle.flat_file.specs.Forms.{one_segment_fault, raw_fault, starts_at_0, sys_bytes, sys_fault}
+use Rattle.flat_file.specs.Com.{LoadedCom, loaded, loading}
+use Rattle.flat_file.specs.Laws.{IsLocatedCom, IsLocatedFrom, IsLocatedSegment, IsWholeFrom}
 use Rattle.flat_file.proofs.Moving.{length-add_words}
 use Rattle.flat_file.proofs.Covering.{around}
-use Rattle.flat_file.proofs.Choosing.{NoneOf, none_of}
+use Rattle.flat_file.proofs.Choosing.{NoneOf, none_of, segment_fits}
 use Rattle.flat_file.proofs.Fitting.{does_fit}
 
 none_there : (rs : List ℕ) → nat_lt 0 (length rs) ≡ false → rs ≡ []
@@ -163,3 +164,57 @@ module _ (layout : Layout) (modules : List Module) (p : Program) (of : IsProgram
                 ∙ sym
                 (ap (λ (o : Option Combined). (stack_of psp o).0) (not_there (stack layout modules) faults.stack));
           }
+
+    -- ---- the file that begins at the start
+
+    module _ (none : from_start_fault layout modules p ≡ None) where
+      module _ (at_0 : starts_at_0 p ≡ true) where
+        segment_is : from_start_bytes p ≡ sys_bytes p
+        segment_is = cond-true (starts_at_0 p) (sys_bytes p) (com_bytes p) at_0
+
+        fits_in_one : (has_relocations p ≡ false) × (nat_lt 65536 (length p.image) ≡ false)
+        fits_in_one =
+            let chosen =
+            cond-true (starts_at_0 p) (one_segment_fault layout modules p) (com_fault layout modules p) at_0 in
+            segment_fits layout modules p (sym chosen ∙ none)
+
+        segment_short : length (from_start_bytes p) ≤ 65536
+        segment_short =
+            let short = ltb-false 65536 (length p.image) fits_in_one.1 in
+            let n = length-take p.written p.image in
+            let l = ap length segment_is in
+            omega (arith, n, short, l)
+
+        pub segment_is_located : (P : ℕ) → IsLocatedSegment P layout modules (from_start_bytes p)
+        segment_is_located P =
+            let start = and_parts (p.registers.cs == 0) (p.registers.ip == 0) at_0 in
+            let cs = eqb-true p.registers.cs 0 start.0 in
+            let ip = eqb-true p.registers.ip 0 start.1 in
+            let each = of.at_each P in
+            let first : (p.registers.cs + P) % 65536 ≡ P % 65536 = omega (arith, cs) in
+            record {
+              located =
+                  subst (IsLocatedFrom P 0 layout modules) (at_any P 0 p fits_in_one.0 ∙ sym segment_is)
+                  (bin_is_located P 0);
+              short = segment_short;
+              cs = ap (λ (r : Registers). r.cs) each ∙ first;
+              ip = ap (λ (r : Registers). r.ip) each ∙ ip;
+            }
+
+      module _ (at_100h : starts_at_0 p ≡ false) (psp : ℕ) (fits : 16 * psp + 65536 ≤ memory_len) where
+        com_is : from_start_bytes p ≡ com_bytes p
+        com_is = cond-false (starts_at_0 p) (sys_bytes p) (com_bytes p) at_100h
+
+        of_com : com_fault layout modules p ≡ None
+        of_com =
+            let chosen =
+            cond-false (starts_at_0 p) (one_segment_fault layout modules p) (com_fault layout modules p) at_100h in
+            sym chosen ∙ none
+
+        pub from_start_is_loaded : (memory : LoadedCom) × (loading psp (from_start_bytes p) ≡ Ok memory)
+            × IsLocatedCom psp layout modules memory
+        from_start_is_loaded = (
+          loaded psp (com_bytes p),
+          ap (loading psp) com_is ∙ com_is_loaded of_com psp fits,
+          com_is_located of_com psp fits,
+        )

@@ -1,5 +1,6 @@
 -- What a file of each form is, of the program that linked modules stand for.
-use Rattle.std.specs.Prelude.{◌≡◌, ℕ, ◌+◌, ◌-◌, ◌*◌, ◌<◌, ◌≤◌, List, IsTrue, length, slice_get, Some, None, Ok}
+use Rattle.std.specs.Prelude.{◌≡◌, ℕ, ◌+◌, ◌-◌, ◌*◌, ◌%◌, ◌<◌, ◌≤◌, List, length, slice_get, Some, None, Ok}
+use Rattle.std.specs.Prelude.{IsTrue, true, false}
 use Rattle.omf_module.specs.Module.{Module}
 use Rattle.omf_place.specs.Layout.{Layout}
 use Rattle.omf_image.specs.Building.{IsProgramOf}
@@ -7,7 +8,8 @@ use Rattle.omf_image.specs.Program.{Program, IsProgram}
 use Rattle.omf_image.specs.Records.{program_byte, written}
 use Rattle.omf_image.specs.Registers.{registers}
 use Rattle.flat_file.specs.Covered.{is_covered, first_covered, memory_len}
-use Rattle.flat_file.specs.Forms.{bin_bytes, com_bytes, com_fault, raw_fault, sys_bytes, sys_fault}
+use Rattle.flat_file.specs.Forms.{bin_bytes, com_bytes, com_fault, from_start_bytes, from_start_fault, raw_fault}
+use Rattle.flat_file.specs.Forms.{starts_at_0, sys_bytes, sys_fault}
 use Rattle.flat_file.specs.Com.{LoadedCom, loading}
 
 -- what data covers begins at the first address that it covers, and lies in the written part
@@ -65,3 +67,26 @@ ComLoadsAsWritten =
     (layout : Layout) (modules : List Module) (program : Program) → IsProgramOf layout modules program
     → IsProgram program → com_fault layout modules program ≡ None → (psp : ℕ) → 16 * psp + 65536 ≤ memory_len
     → (memory : LoadedCom) × (loading psp (com_bytes program) ≡ Ok memory) × IsLocatedCom psp layout modules memory
+
+-- These bytes are one segment, those of the located program at a paragraph, and it starts at the first of them.
+pub record IsLocatedSegment (paragraph : ℕ) (layout : Layout) (modules : List Module) (file : List ℕ) : Type 0 where
+  pub located : IsLocatedFrom paragraph 0 layout modules file
+  pub short : length file ≤ 65536
+  pub cs : (registers paragraph layout modules).cs ≡ paragraph % 65536
+  pub ip : (registers paragraph layout modules).ip ≡ 0
+
+-- a file that begins at its program's start is that at each paragraph, where the start is at 0
+abbrev pub FromStartIsLocated : Type 0
+FromStartIsLocated =
+    (layout : Layout) (modules : List Module) (program : Program) → IsProgramOf layout modules program
+    → IsProgram program → from_start_fault layout modules program ≡ None → starts_at_0 program ≡ true
+    → (paragraph : ℕ) → IsLocatedSegment paragraph layout modules (from_start_bytes program)
+
+-- and else it is what a .COM file is, wherever its segment fits
+abbrev pub FromStartLoadsAsWritten : Type 0
+FromStartLoadsAsWritten =
+    (layout : Layout) (modules : List Module) (program : Program) → IsProgramOf layout modules program
+    → IsProgram program → from_start_fault layout modules program ≡ None → starts_at_0 program ≡ false
+    → (psp : ℕ) → 16 * psp + 65536 ≤ memory_len
+    → (memory : LoadedCom) × (loading psp (from_start_bytes program) ≡ Ok memory)
+    × IsLocatedCom psp layout modules memory

@@ -1,5 +1,6 @@
 //! What a file of each form is, of the program that modules stand for.
-ghost use Rattle.flat_file.specs.Laws.{BinIsLocated, ComLoadsAsWritten, CoversWritten, RawIsWhole, SysIsLocated};
+ghost use Rattle.flat_file.specs.Laws.{BinIsLocated, ComLoadsAsWritten, CoversWritten, FromStartIsLocated};
+ghost use Rattle.flat_file.specs.Laws.{FromStartLoadsAsWritten, RawIsWhole, SysIsLocated};
 
 /// What DOS makes of the .COM file of a program, wherever its segment fits: at each address of its written part the byte
 /// of the located program at the paragraph of the program segment prefix, but for the last word of the segment, which
@@ -19,4 +20,11 @@ pub fn bin_is_located()
 /// A driver's file is the located program at each paragraph.
 pub fn sys_is_located()
     ensures { SysIsLocated }
+{}
+
+/// A file that begins at its program's start is, where that is 0, one segment: at each paragraph the located program,
+/// which starts at the first byte. Else it is what a .COM file is.
+pub fn from_start_is_located()
+    ensures at_0 { FromStartIsLocated }
+    ensures at_100h { FromStartLoadsAsWritten }
 {}
