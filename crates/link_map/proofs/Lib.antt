@@ -5,3 +5,4 @@ pub mod Lines
 pub mod Puts
 mod Texts
 mod BySegment
+mod Grouped

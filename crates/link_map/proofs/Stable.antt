@@ -7,6 +7,7 @@ use Rattle.std.specs.Ordering.{nat_cmp, ordering_then}
 use Rattle.std.specs.declared.cmp.Ordering.{Ordering}
 use Rattle.std.proofs.lemmas.List.Sorted.{IsPermutation-refl, IsPermutation-cons, IsPermutation-middle}
 use Rattle.std.proofs.lemmas.List.Sorted.{IsPermutation-trans, ranks_by}
+use Rattle.link_map.specs.Detailed.{Part, by_address}
 use Rattle.link_map.specs.Ordered.{put_in, ordered}
 use Rattle.link_map.specs.Public.{Public, by_name, by_value}
 use Rattle.link_map.proofs.InOrder.{Ascends}
@@ -49,3 +50,6 @@ place_cmp_total =
 
 pub values_order : IsStrictWeakOrder by_value
 values_order = ranks_by place_cmp_total (λ p. p)
+
+pub addresses_order : IsStrictWeakOrder by_address
+addresses_order = ranks_by nat_cmp_total (λ (p : Part). p.address)

@@ -1,12 +1,13 @@
 -- Texts that are made of the items of a list, one behind the other.
 use Rattle.std.proofs.Common.{◌≡◌, ℕ, ◌+◌, ◌<◌, ◌≤◌, List, [], ◌∷◌, ◌++◌, length, drop, get_or, refl, sym, ap, ◌∙◌}
+use Rattle.std.proofs.Common.{map}
 use Rattle.std.proofs.Common.{append_assoc, append-nil, add-one, if◌then◌else◌, Ok, Err, OnOk, Result}
 use Rattle.std.specs.Result.{is_ok}
 use Rattle.std.proofs.Math.ListN.{drop_of_length-le}
 use Rattle.std.proofs.Math.Seq.{drop-cons}
 use Rattle.std.specs.List.{enumerate_from, flat_map}
 
-drop-one : {Y : Type 0} (ys : List Y) (i : ℕ) (d : Y) → i < length ys → drop i ys ≡ get_or ys i d ∷ drop (i + 1) ys
+pub drop-one : {Y : Type 0} (ys : List Y) (i : ℕ) (d : Y) → i < length ys → drop i ys ≡ get_or ys i d ∷ drop (i + 1) ys
 drop-one ys i d h = drop-cons ys i d h ∙ ap (λ k. get_or ys i d ∷ drop k ys) (sym (add-one i))
 
 -- what one item makes was appended; `rest` is what the items from one on make
@@ -48,6 +49,18 @@ each-more f ys i d old new goal h added before =
 pub each-done : {Y Z : Type 0} (f : ℕ × Y → List Z) (ys : List Y) (i : ℕ) (old goal : List Z) → length ys ≤ i
     → old ++ flat_map f (enumerate_from i (drop i ys)) ≡ goal → old ≡ goal
 each-done f ys i old goal h before = text-done (λ n l. flat_map f (enumerate_from n l)) ys i old goal h refl before
+
+-- ---- each item makes one with its index
+
+pub mapped-more : {Y Z : Type 0} (f : ℕ × Y → Z) (ys : List Y) (i : ℕ) (d : Y) (old new goal : List Z) → i < length ys
+    → new ≡ old ++ f (i, get_or ys i d) ∷ [] → old ++ map f (enumerate_from i (drop i ys)) ≡ goal
+    → new ++ map f (enumerate_from (i + 1) (drop (i + 1) ys)) ≡ goal
+mapped-more f ys i d old new goal h added before =
+    text-step (λ n l. map f (enumerate_from n l)) (f (i, get_or ys i d) ∷ []) ys i d old new goal h refl added before
+
+pub mapped-done : {Y Z : Type 0} (f : ℕ × Y → Z) (ys : List Y) (i : ℕ) (old goal : List Z) → length ys ≤ i
+    → old ++ map f (enumerate_from i (drop i ys)) ≡ goal → old ≡ goal
+mapped-done f ys i old goal h before = text-done (λ n l. map f (enumerate_from n l)) ys i old goal h refl before
 
 -- ---- texts appended one behind the other
 

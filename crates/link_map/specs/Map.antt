@@ -1,6 +1,6 @@
 -- The map of a linked program in the form of Microsoft's LINK, or of Borland's TLINK: segments in order of address,
--- groups, publics by name and by value, line numbers where they are asked for, and where the program starts. Debuggers
--- and disassemblers read it. What is out of range in a table has no line.
+-- groups, publics by name and by value, and where the program starts; the modules' parts of segments and line numbers
+-- where they are asked for. Debuggers and disassemblers read it. What is out of range in a table has no line.
 use Rattle.std.specs.Prelude.{◌≡◌, ℕ, ◌+◌, ◌-◌, ◌==◌, if◌then◌else◌, List, [], ◌∷◌, ◌++◌, slice_get, length, replicate}
 use Rattle.std.specs.Prelude.{codes, Some, None, Err}
 use Rattle.std.specs.declared.option.Option.{Option}
@@ -15,12 +15,14 @@ use Rattle.omf_place.specs.Layout.{Layout}
 use Rattle.omf_image.specs.declared.start.Registers.{Registers}
 use Rattle.omf_image.specs.Program.{Program}
 use Rattle.omf_text.specs.Printing.{hexadecimal}
+use Rattle.link_map.specs.Detailed.{detail_lines}
 use Rattle.link_map.specs.Numbers.{number_lines}
 use Rattle.link_map.specs.Ordered.{ordered}
 use Rattle.link_map.specs.Public.{Public, by_name, by_value, public_line}
 use Rattle.link_map.specs.Publics.{publics}
 use Rattle.link_map.specs.declared.form.MapForm.{MapForm}
 use Rattle.link_map.specs.declared.form.MapForm.TheVariants.{Link, Tlink}
+use Rattle.link_map.specs.declared.form.Shown.{Shown}
 use Rattle.link_map.specs.declared.fault.MapFault.{MapFault}
 use Rattle.link_map.specs.declared.fault.MapFault.TheVariants.{Memory}
 
@@ -107,6 +109,15 @@ abbrev pub numbered_map_text : MapForm → List Module → Layout → Program �
 numbered_map_text form modules layout program inputs files = segment_lines form modules layout
     ++ (group_lines form modules layout ++ (public_lines modules layout
     ++ (number_lines modules layout inputs files ++ start_line program.registers)))
+
+-- the same with what is shown besides: the detailed map of segments in front of the publics, and the line numbers
+abbrev pub shown_map_text : Shown → List Module → Layout → Program → (inputs files : List (List ℕ)) → List ℕ
+shown_map_text shown modules layout program inputs files = segment_lines shown.form modules layout
+    ++ (group_lines shown.form modules layout
+    ++ ((if shown.details then detail_lines modules layout inputs else [])
+    ++ (public_lines modules layout
+    ++ ((if shown.line_numbers then number_lines modules layout inputs files else [])
+    ++ start_line program.registers))))
 
 -- what an answer says: a text was written, or a front of it; or there was no memory, and the sink is as it was
 abbrev pub WritesMap : {K X : Type 0} → (written : K → Option (List ℕ)) → (failures : K → ℕ) → (old new : K)

@@ -2,3 +2,4 @@
 pub mod Listed
 pub mod Texts
 pub mod Numbers
+pub mod Details

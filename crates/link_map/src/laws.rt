@@ -1,6 +1,7 @@
 //! Laws of the definitions, each the contract of a function that does nothing.
 ghost use Rattle.std.specs.Prelude.{List, IsPermutation};
 ghost use Rattle.std.specs.List.Sorted.{IsSortedBy, IsStableBy};
+ghost use Rattle.link_map.specs.Detailed.{Part, by_address};
 ghost use Rattle.link_map.specs.Ordered.{ordered};
 ghost use Rattle.link_map.specs.Public.{Public, by_name, by_value};
 
@@ -17,4 +18,11 @@ pub fn values_rise()
     ensures same { (publics : List Public) → IsPermutation publics (ordered by_value publics) }
     ensures rising { (publics : List Public) → IsSortedBy by_value (ordered by_value publics) }
     ensures stable { (publics : List Public) → IsStableBy by_value publics (ordered by_value publics) }
+{}
+
+/// The same of the parts of segments in the order of their addresses.
+pub fn parts_rise()
+    ensures same { (parts : List Part) → IsPermutation parts (ordered by_address parts) }
+    ensures rising { (parts : List Part) → IsSortedBy by_address (ordered by_address parts) }
+    ensures stable { (parts : List Part) → IsStableBy by_address parts (ordered by_address parts) }
 {}

@@ -1,18 +1,20 @@
 //! The lines of the map, and the whole of it.
-ghost use Rattle.std.specs.Prelude.{◌≡◌, ◌+◌, ◌-◌, ◌^◌, ◌<◌, length, replicate};
+ghost use Rattle.std.specs.Prelude.{◌≡◌, ◌+◌, ◌-◌, ◌^◌, ◌<◌, [], IfOk, if◌then◌else◌, length, replicate};
 ghost use Rattle.std.specs.List.{flat_map};
 ghost use Rattle.omf_frame.specs.Device.{Writes};
 ghost use Rattle.omf_module.specs.Seen.{group_seen, segment_seen};
 ghost use Rattle.omf_place.specs.Bounded.{IsBounded};
 ghost use Rattle.link_map.specs.Map as spec;
-ghost use Rattle.link_map.specs.Map.{WritesMap, link_map_text, numbered_map_text};
-ghost use Rattle.link_map.specs.Numbers.{bytes_of};
+ghost use Rattle.link_map.specs.Detailed.{detail_lines};
+ghost use Rattle.link_map.specs.Map.{WritesMap, link_map_text, numbered_map_text, shown_map_text};
+ghost use Rattle.link_map.specs.Numbers.{bytes_of, number_lines};
 ghost use Rattle.link_map.specs.inside.Listed.{all_seen};
 ghost use Rattle.link_map.specs.inside.Texts.{map_with};
 
 use crate::fault::MapFault;
-use crate::form::MapForm;
+use crate::form::{MapForm, Shown};
 use crate::numbers::{Sources, program_numbers};
+use crate::parts::program_details;
 use crate::public::{ListedPublic, put_publics};
 use crate::publics::{Orders, in_orders};
 use omf_frame::{IoFault, Sink, put_all};
@@ -20,7 +22,7 @@ use omf_image::{Program, Registers};
 use omf_module::{Group, Module, Segment};
 use omf_place::{Combined, GroupPlace, Layout};
 use omf_text::{Hexadecimal, put_pieces};
-use std::alloc::{Allocator, Global};
+use std::alloc::{AllocError, Allocator, Global};
 
 /// The blanks of a name's columns.
 const BLANKS: [u8; 22] = [b' '; 22];
@@ -268,23 +270,34 @@ fn put_start<K: Sink>(sink: &mut K, registers: Registers) -> Result<(), IoFault>
     put_pieces(sink, pieces.as_slice())
 }
 
-/// Writes the whole map, with the publics in both orders, and with these line numbers.
+/// The texts that a map has where they are asked for.
+#[derive(Clone, Copy)]
+struct Asked<'t> {
+    /// The detailed map of segments.
+    details: &'t [u8],
+    /// The line numbers.
+    numbers: &'t [u8],
+}
+
+/// Writes the whole map, with the publics in both orders, and with these texts.
 fn put_lines<K: Sink, A: Allocator + Copy, B: Allocator + Copy>(
     sink: &mut K,
     form: MapForm,
     linked: &LinkedProgram<'_, A>,
     orders: &Orders<'_, B>,
-    numbers: &[u8],
+    asked: Asked<'_>,
 ) -> Result<(), IoFault>
     requires { K.failures sink.old < 2 ^ 64 - 1 }
     ensures { Writes K.written K.failures sink.old sink.new
         (map_with form linked.now.modules.now linked.now.layout.now linked.now.program.now
-        (all_seen orders.now.by_name.items) (all_seen orders.now.by_value.items) numbers.now) result }
+        (all_seen orders.now.by_name.items) (all_seen orders.now.by_value.items)
+        asked.entry.details.now asked.entry.numbers.now) result }
 {
     put_segments(sink, form, linked.modules, linked.layout)?;
     put_groups(sink, form, linked.modules, linked.layout)?;
+    put_all(sink, asked.details)?;
     put_orders(sink, &orders.by_name, &orders.by_value)?;
-    put_all(sink, numbers)?;
+    put_all(sink, asked.numbers)?;
     put_start(sink, linked.program.registers())
 }
 
@@ -305,7 +318,11 @@ pub fn write_link_map<K: Sink, A: Allocator + Copy, B: Allocator + Copy>(
         (link_map_text form linked.now.modules.now linked.now.layout.now linked.now.program.now) result }
 {
     let orders = in_orders(alloc, linked.modules, linked.layout)?;
-    put_lines(sink, form, linked, &orders, b"")?;
+    let asked = Asked {
+        details: b"",
+        numbers: b"",
+    };
+    put_lines(sink, form, linked, &orders, asked)?;
     Ok(())
 }
 
@@ -328,8 +345,77 @@ pub fn write_numbered_map<K: Sink, A: Allocator + Copy, B: Allocator + Copy>(
         (numbered_map_text form linked.now.modules.now linked.now.layout.now linked.now.program.now
         (bytes_of sources.entry.inputs.now) (bytes_of sources.entry.files.now)) result }
 {
+    let shown = Shown {
+        form,
+        details: false,
+        line_numbers: true,
+    };
+    write_shown_map(alloc, sink, shown, linked, sources)
+}
+
+/// The detailed map of segments, where it is shown.
+fn shown_details<A: Allocator + Copy, B: Allocator + Copy>(
+    alloc: B,
+    shown: Shown,
+    linked: &LinkedProgram<'_, A>,
+    sources: Sources<'_>,
+) -> Result<Vec<u8, B>, AllocError>
+    requires { IsBounded linked.now.modules.now linked.now.layout.now }
+    ensures { IfOk result (λ text. text.items ≡ if shown.details
+        then detail_lines linked.now.modules.now linked.now.layout.now (bytes_of sources.entry.inputs.now) else []) }
+{
+    if shown.details {
+        program_details(alloc, linked.modules, linked.layout, sources.inputs)
+    } else {
+        Ok(Vec::new(alloc))
+    }
+}
+
+/// The line numbers, where they are shown.
+fn shown_numbers<A: Allocator + Copy, B: Allocator + Copy>(
+    alloc: B,
+    shown: Shown,
+    linked: &LinkedProgram<'_, A>,
+    sources: Sources<'_>,
+) -> Result<Vec<u8, B>, AllocError>
+    requires { IsBounded linked.now.modules.now linked.now.layout.now }
+    ensures { IfOk result (λ text. text.items ≡ if shown.line_numbers
+        then number_lines linked.now.modules.now linked.now.layout.now (bytes_of sources.entry.inputs.now)
+        (bytes_of sources.entry.files.now) else []) }
+{
+    if shown.line_numbers {
+        program_numbers(alloc, linked.modules, linked.layout, sources)
+    } else {
+        Ok(Vec::new(alloc))
+    }
+}
+
+/// Writes the same map with what is shown besides: in front of the publics the detailed map of segments, which has each
+/// module's part of a segment in order of address, and behind them the line numbers.
+///
+/// # Errors
+/// There was no memory for the orders of the publics or for what is shown besides, and nothing was written; or the sink
+/// failed.
+pub fn write_shown_map<K: Sink, A: Allocator + Copy, B: Allocator + Copy>(
+    alloc: B,
+    sink: &mut K,
+    shown: Shown,
+    linked: &LinkedProgram<'_, A>,
+    sources: Sources<'_>,
+) -> Result<(), MapFault>
+    requires working { K.failures sink.old < 2 ^ 64 - 1 }
+    requires bounded { IsBounded linked.now.modules.now linked.now.layout.now }
+    ensures { WritesMap K.written K.failures sink.old sink.new
+        (shown_map_text shown linked.now.modules.now linked.now.layout.now linked.now.program.now
+        (bytes_of sources.entry.inputs.now) (bytes_of sources.entry.files.now)) result }
+{
     let orders = in_orders(alloc, linked.modules, linked.layout)?;
-    let numbers = program_numbers(alloc, linked.modules, linked.layout, sources)?;
-    put_lines(sink, form, linked, &orders, &numbers)?;
+    let details = shown_details(alloc, shown, linked, sources)?;
+    let numbers = shown_numbers(alloc, shown, linked, sources)?;
+    let asked = Asked {
+        details: &details,
+        numbers: &numbers,
+    };
+    put_lines(sink, shown.form, linked, &orders, asked)?;
     Ok(())
 }

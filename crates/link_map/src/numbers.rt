@@ -47,7 +47,7 @@ struct LinePlace {
 }
 
 /// Appends pieces, one behind the other.
-fn push_pieces<A: Allocator + Copy>(
+pub(crate) fn push_pieces<A: Allocator + Copy>(
     text: &mut Vec<u8, A>,
     pieces: &[&[u8]],
 ) -> Result<(), AllocError>
@@ -259,7 +259,7 @@ fn push_segments<A: Allocator + Copy, B: Allocator + Copy>(
 }
 
 /// The slice with this index; empty behind the last.
-fn slice_at<'s>(slices: &[&'s [u8]], index: usize) -> &'s [u8]
+pub(crate) fn slice_at<'s>(slices: &[&'s [u8]], index: usize) -> &'s [u8]
     ensures { result.now ≡ unwrap_or (slice_get (spec.bytes_of slices.now) index) [] }
 {
     match slices.get(index) {

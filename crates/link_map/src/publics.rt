@@ -22,7 +22,7 @@ pub(crate) struct Orders<'a, A: Allocator + Copy = Global> {
 }
 
 /// A public of a name, which stands there.
-fn listed_at<'a>(name: &'a [u8], place: Position) -> ListedPublic<'a>
+pub(crate) fn listed_at<'a>(name: &'a [u8], place: Position) -> ListedPublic<'a>
     ensures { seen result ≡ spec.listed_at name.now place }
 {
     match place {

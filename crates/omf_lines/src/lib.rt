@@ -9,5 +9,5 @@ mod sorted;
 
 pub use laws::lines_are_said;
 pub use line::Line;
-pub use reading::{NumberedModule, numbered_module};
+pub use reading::{NumberedModule, module_name, numbered_module};
 pub use sorted::lines_of_segment;

@@ -108,7 +108,7 @@ fn name_in<'a>(frame: &Frame<'a>) -> Option<&'a [u8]>
 }
 
 /// The name of the module of these records.
-fn module_name<'a>(frames: &[Frame<'a>]) -> &'a [u8]
+pub fn module_name<'a>(frames: &[Frame<'a>]) -> &'a [u8]
     ensures { result.now ≡ name_of (map plain_frame frames.now) }
 {
     match frames.first() {

@@ -7,8 +7,9 @@ use Rattle.link_map.specs.Map.{group_lines, order_lines, segment_lines, start_li
 use Rattle.link_map.specs.Public.{Public}
 use Rattle.link_map.specs.declared.form.MapForm.{MapForm}
 
--- the map with its publics in two orders, and its line numbers, whichever they are
-abbrev pub map_with : MapForm → List Module → Layout → Program → (names values : List Public) → (numbers : List ℕ)
-    → List ℕ
-map_with form modules layout program names values numbers = segment_lines form modules layout
-    ++ (group_lines form modules layout ++ (order_lines names values ++ (numbers ++ start_line program.registers)))
+-- the map with its publics in two orders, its detailed map and its line numbers, whichever they are
+abbrev pub map_with : MapForm → List Module → Layout → Program → (names values : List Public)
+    → (details numbers : List ℕ) → List ℕ
+map_with form modules layout program names values details numbers = segment_lines form modules layout
+    ++ (group_lines form modules layout ++ (details
+    ++ (order_lines names values ++ (numbers ++ start_line program.registers))))

@@ -11,26 +11,35 @@ returns-in_err-put_groups g c =
     Wrote-then _ _ _ _ _ _ _ _ _ c.in_ok-put_segments.ensures
     (Wrote-cut _ _ _ _ _ _ _ _ _ c.in_err-put_groups.ensures refl c.from_residual-in_err-put_groups.ensures.1)
 
-pub returns-in_err-put_orders : goal.returns-in_err-put_orders
-returns-in_err-put_orders g c =
-    Wrote-then _ _ _ _ _ _ _ _ _ c.in_ok-put_segments.ensures
-    (Wrote-then _ _ _ _ _ _ _ _ _ c.in_ok-put_groups.ensures
-    (Wrote-cut _ _ _ _ _ _ _ _ _
-    (rw (c.deref.ensures.value, c.deref-2.ensures.value) at c.in_err-put_orders.ensures) refl
-    c.from_residual-in_err-put_orders.ensures.1))
-
 pub returns-in_err-put_all : goal.returns-in_err-put_all
 returns-in_err-put_all g c =
     Wrote-then _ _ _ _ _ _ _ _ _ c.in_ok-put_segments.ensures
     (Wrote-then _ _ _ _ _ _ _ _ _ c.in_ok-put_groups.ensures
+    (Wrote-cut _ _ _ _ _ _ _ _ _ c.in_err-put_all.ensures refl c.from_residual-in_err-put_all.ensures.1))
+
+pub returns-in_err-put_orders : goal.returns-in_err-put_orders
+returns-in_err-put_orders g c =
+    Wrote-then _ _ _ _ _ _ _ _ _ c.in_ok-put_segments.ensures
+    (Wrote-then _ _ _ _ _ _ _ _ _ c.in_ok-put_groups.ensures
+    (Wrote-then _ _ _ _ _ _ _ _ _ c.in_ok-put_all.ensures
+    (Wrote-cut _ _ _ _ _ _ _ _ _
+    (rw (c.deref.ensures.value, c.deref-2.ensures.value) at c.in_err-put_orders.ensures) refl
+    c.from_residual-in_err-put_orders.ensures.1)))
+
+pub returns-in_err-put_all-2 : goal.returns-in_err-put_all-2
+returns-in_err-put_all-2 g c =
+    Wrote-then _ _ _ _ _ _ _ _ _ c.in_ok-put_segments.ensures
+    (Wrote-then _ _ _ _ _ _ _ _ _ c.in_ok-put_groups.ensures
+    (Wrote-then _ _ _ _ _ _ _ _ _ c.in_ok-put_all.ensures
     (Wrote-then _ _ _ _ _ _ _ _ _
     (rw (c.deref.ensures.value, c.deref-2.ensures.value) at c.in_ok-put_orders.ensures)
-    (Wrote-cut _ _ _ _ _ _ _ _ _ c.in_err-put_all.ensures refl c.from_residual-in_err-put_all.ensures.1)))
+    (Wrote-cut _ _ _ _ _ _ _ _ _ c.in_err-put_all-2.ensures refl c.from_residual-in_err-put_all-2.ensures.1))))
 
 pub returns : goal.returns
 returns g c =
     Wrote-then _ _ _ _ _ _ _ _ _ c.in_ok-put_segments.ensures
     (Wrote-then _ _ _ _ _ _ _ _ _ c.in_ok-put_groups.ensures
+    (Wrote-then _ _ _ _ _ _ _ _ _ c.in_ok-put_all.ensures
     (Wrote-then _ _ _ _ _ _ _ _ _
     (rw (c.deref.ensures.value, c.deref-2.ensures.value) at c.in_ok-put_orders.ensures)
-    (Wrote-then _ _ _ _ _ _ _ _ _ c.in_ok-put_all.ensures (rw c.registers.ensures at c.put_start.ensures))))
+    (Wrote-then _ _ _ _ _ _ _ _ _ c.in_ok-put_all-2.ensures (rw c.registers.ensures at c.put_start.ensures)))))
