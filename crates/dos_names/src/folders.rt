@@ -11,6 +11,8 @@ use std::io::{self, ErrorKind};
 #[derive(Drop)]
 pub(crate) struct Listing {
     alike: BTreeMap<String, Vec<String>>,
+    /// Whether the system tells what stands in the folder.
+    is_told: bool,
 }
 
 /// A name in small letters.
@@ -35,6 +37,7 @@ impl Listing {
     fn read(rt: &HostRuntime, folder: &str) -> io::Result<Listing> {
         let mut listing = Listing {
             alike: BTreeMap::new(rt.alloc()),
+            is_told: true,
         };
         for entry in fs::read_dir(rt, folder)? {
             match entry {
@@ -51,9 +54,16 @@ impl Listing {
         match Listing::read(rt, folder) {
             Err(error) if error.kind() != ErrorKind::OutOfMemory => Ok(Listing {
                 alike: BTreeMap::new(rt.alloc()),
+                is_told: false,
             }),
             told => told,
         }
+    }
+
+    /// Whether none of the names is the same as one that is wanted, where the system tells them.
+    pub(crate) fn lacks(&self, alloc: Global, wanted: &str) -> Result<bool, AllocError> {
+        let choice = self.choice(alloc, wanted)?;
+        Ok(self.is_told && choice == Choice::Nothing)
     }
 
     /// Which of the names are the same as one that is wanted.

@@ -16,6 +16,7 @@ fn unread_text(fault: ReadFault) -> &'static str
         ReadFault::Absent => "no such file",
         ReadFault::Folder => "it is a folder",
         ReadFault::Forbidden => "no permission",
+        ReadFault::NoDrive => "there is no such drive",
         ReadFault::Special => "it is no regular file",
         ReadFault::Unopened(_) => "it can't be opened",
         ReadFault::Device(_) => "it can't be read",

@@ -2,7 +2,9 @@
 ghost use Rattle.std.specs.Prelude.{◌≡◌, ℕ, List, IfOk, IfSome, OnOk, None};
 ghost use Rattle.std.specs.declared.option.Option.{Option};
 ghost use Rattle.std.specs.Result.{result_ok};
+ghost use Rattle.omf_files.specs.declared.world.FileId as ids;
 ghost use Rattle.omf_files.specs.declared.world.Looked as looking;
+ghost use Rattle.omf_files.specs.declared.world.PlaceKind.TheVariants.{Regular};
 
 use std::io::{self, Read, Write};
 
@@ -46,6 +48,9 @@ pub trait World {
     // The bytes of the file at a path, where the world tells them.
     ghost bytes: { Self → List ℕ → Option (List ℕ) } = { λ _ _. None };
 
+    // The bytes of each regular file, whatever the path that leads to it, where the world tells them.
+    ghost holds: { Self → ids.FileId → Option (List ℕ) } = { λ _ _. None };
+
     // What stands at each path, and none where nothing does, where the world tells it.
     ghost looks: { Self → Option (List ℕ → Option looking.Looked) } = { λ _. None };
 
@@ -61,7 +66,9 @@ pub trait World {
 
     /// What stands at the path. Where that is a link, what it leads to.
     fn look(&self, path: &str) -> io::Result<Looked>
-        ensures { IfSome (looks self.now) (λ told. result_ok result ≡ told path.now) };
+        ensures told { IfSome (looks self.now) (λ told. result_ok result ≡ told path.now) }
+        ensures holds { IfOk result (λ looked. looked.kind ≡ Regular → bytes self.now path.now ≡ holds self.now
+            looked.id) };
 
     /// A file without bytes that can be put at the path.
     fn create(&self, path: &str) -> io::Result<Self::Created>
