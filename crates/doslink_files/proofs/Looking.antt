@@ -6,14 +6,19 @@ use Rattle.std.proofs.lemmas.List.{flat_map_more, get_or-map, length-map, map-ap
 use Rattle.std.proofs.Math.Seq.{take-append_seam}
 use Rattle.std.specs.declared.option.Option.{Option}
 use Rattle.std.specs.Borrow.{Bor}
+use Rattle.std.specs.BTreeSet.{BTreeSet}
 use Rattle.std.specs.Io.KnownBytes.{Consumes}
 use Rattle.std.specs.List.{Contains, flat_map}
+use Rattle.std.specs.Option.{option_or}
+use Rattle.omf_files.specs.declared.world.FileId.{FileId}
 use Rattle.doslink_files.specs.declared.reading.Sought.{Sought}
 use Rattle.doslink_files.specs.declared.lookup.Found.{Found}
 use Rattle.doslink_files.specs.declared.lookup.Found.TheVariants.{New, Known}
-use Rattle.doslink_files.specs.declared.reading.InputFile.{InputFile}
-use Rattle.doslink_files.specs.Files.{IsFileOf, IsFoundNew, IsObjectPath, IsPathOf}
+use Rattle.doslink_files.specs.declared.taking.Taken.{Taken}
+use Rattle.doslink_files.specs.declared.taking.Taken.TheVariants as taken
+use Rattle.doslink_files.specs.Files.{IsFoundNew, IsPathOf}
 use Rattle.doslink_files.specs.inside.Looking.{IsReadNew}
+use Rattle.doslink_files.specs.inside.Taking.{IsTaken}
 use Rattle.doslink_files.specs.Files.{IsModulesPart, sought_name}
 use Rattle.doslink_files.specs.Paths as spec
 use Rattle.doslink_files.specs.Standing as spec-front
@@ -60,23 +65,46 @@ path-at paths i d all h are =
     subst (λ ps. Contains ps (string_bytes (get_or paths i d))) are
     (i, there, get_or-map string_bytes paths i d (string_bytes (get_or paths i d)) h)
 
--- what a look-up found among some paths stands at one of them
-pub first-of : {A E : Type 0} (told : List ℕ → Option (List ℕ)) (paths all : List (List ℕ))
-    (found : Result (InputFile A) E) → paths ≡ all → IfOk found (λ file. Contains paths (string_bytes file.path))
-    → IfOk found (λ file. IsModulesPart (told (string_bytes file.path)) file.bytes.items)
-    → IfOk found (λ file. Contains all (string_bytes file.path)
-    × IsModulesPart (told (string_bytes file.path)) file.bytes.items)
-first-of told paths all (Ok file) are among is = (subst (λ ps. Contains ps (string_bytes file.path)) are among, is)
-first-of told paths all (Err fault) are among is = tt
+-- what holds of a file that is taken does where less is said
+pub taken-weaker : {A : Type 0} (Is Other : (path bytes : List ℕ) → Type 0) (holds : FileId → Option (List ℕ))
+    (known : BTreeSet FileId) (taken : Taken A) → ((path bytes : List ℕ) → Is path bytes → Other path bytes)
+    → IsTaken Is holds known taken → IsTaken Other holds known taken
+taken-weaker Is Other holds known (taken.New file regular) weaker is =
+    (weaker (string_bytes file.path) file.bytes.items is.0, is.1)
+taken-weaker Is Other holds known (taken.Known id) weaker is =
+    (is.0, is.1, λ bytes part. weaker is.1 bytes (is.2 bytes part))
 
--- and a module that is named by a path
-pub named-of : {A E : Type 0} (told : List ℕ → Option (List ℕ)) (folders : List (List ℕ)) (path : List ℕ)
-    (found : Result (InputFile A) E)
-    → IfOk found (λ file. IsObjectPath folders path (string_bytes file.path)
-    × IsModulesPart (told (string_bytes file.path)) file.bytes.items)
-    → IfOk found (λ file. IsFileOf told folders path file.bytes.items)
-named-of told folders path (Ok file) is = (string_bytes file.path, is.0, is.1)
-named-of told folders path (Err fault) is = tt
+-- and of a look-up, where there is one
+pub found-weaker : {A E : Type 0} (Is Other : (path bytes : List ℕ) → Type 0) (holds : FileId → Option (List ℕ))
+    (known : BTreeSet FileId) (found : Result (Taken A) E) → ((path bytes : List ℕ) → Is path bytes → Other path bytes)
+    → IfOk found (IsTaken Is holds known) → IfOk found (IsTaken Other holds known)
+found-weaker Is Other holds known (Ok taken) weaker is = taken-weaker Is Other holds known taken weaker is
+found-weaker Is Other holds known (Err fault) weaker is = tt
+
+-- what is taken at one of some paths is taken among them
+pub taken-among : {A : Type 0} (told : List ℕ → Option (List ℕ)) (holds : FileId → Option (List ℕ))
+    (known : BTreeSet FileId) (paths : List (List ℕ)) (path : List ℕ) (taken : Taken A) → Contains paths path
+    → IsTaken (λ at bytes. (at ≡ path) × IsModulesPart (told at) bytes) holds known taken
+    → IsTaken (λ at bytes. Contains paths at × IsModulesPart (told at) bytes) holds known taken
+taken-among told holds known paths path taken stands is =
+    taken-weaker (λ at bytes. (at ≡ path) × IsModulesPart (told at) bytes)
+    (λ at bytes. Contains paths at × IsModulesPart (told at) bytes) holds known taken
+    (λ at bytes one. (subst (Contains paths) (sym one.0) stands, one.1)) is
+
+-- what holds of one where there is one, and of another, holds of the first of the two
+pub first-holds : {X : Type 0} (P : X → Type 0) (one : Option X) (other : X) → IfSome one P → P other
+    → IfSome (option_or one (Some other)) P
+first-holds P None other is holds = holds
+first-holds P (Some one) other is holds = is
+
+-- what a look-up took among some paths is taken of them
+pub first-of : {A E : Type 0} (told : List ℕ → Option (List ℕ)) (holds : FileId → Option (List ℕ))
+    (known : BTreeSet FileId) (paths all : List (List ℕ)) (found : Result (Taken A) E) → paths ≡ all
+    → IfOk found (IsTaken (λ path bytes. Contains paths path × IsModulesPart (told path) bytes) holds known)
+    → IfOk found (IsTaken (λ path bytes. Contains all path × IsModulesPart (told path) bytes) holds known)
+first-of told holds known paths all found are is =
+    subst (λ (ps : List (List ℕ)).
+    IfOk found (IsTaken (λ path bytes. Contains ps path × IsModulesPart (told path) bytes) holds known)) are is
 
 -- a file at one of the paths of a library is that library
 pub found-new : {A : Type 0} (told : List ℕ → Option (List ℕ)) (folders : List (List ℕ)) (name path : List ℕ)

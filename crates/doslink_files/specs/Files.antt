@@ -56,12 +56,6 @@ abbrev pub IsModulesPart : Option (List ℕ) → (bytes : List ℕ) → Type 0
 IsModulesPart None bytes = Unit {0}
 IsModulesPart (Some told) bytes = bytes ≡ part_read told
 
--- for each name there are bytes for which this holds, in their order
-abbrev pub Each : (List ℕ → List ℕ → Type 0) → (names files : List (List ℕ)) → Type 0
-Each holds [] [] = Unit {0}
-Each holds (name ∷ names) (bytes ∷ files) = holds name bytes × Each holds names files
-Each holds _ _ = ⊥
-
 -- a library of this name is looked up at this path, in this folder and in the others
 abbrev pub IsPathOf : (folders : List (List ℕ)) → (name path : List ℕ) → Type 0
 IsPathOf folders name path = Contains (paths_of (extensions name) folders name) path

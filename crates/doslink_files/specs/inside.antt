@@ -2,3 +2,4 @@
 pub mod Fronts
 pub mod Looking
 pub mod Reading
+pub mod Taking

@@ -20,6 +20,9 @@ pub enum ReadFault {
     /// It may not be opened.
     #[error("no permission")]
     Forbidden,
+    /// Its path begins with a drive that isn't here.
+    #[error("there is no such drive")]
+    NoDrive,
     /// It is no regular file, where one is asked for.
     #[error("it is no regular file")]
     Special,
@@ -39,6 +42,8 @@ impl ReadFault {
             ErrorKind::NotFound | ErrorKind::NotADirectory => ReadFault::Absent,
             ErrorKind::IsADirectory => ReadFault::Folder,
             ErrorKind::PermissionDenied => ReadFault::Forbidden,
+            // no call for a file answers it, but names of DOS do
+            ErrorKind::AddrNotAvailable => ReadFault::NoDrive,
             kind => ReadFault::Unopened(kind),
         }
     }

@@ -8,6 +8,7 @@ mod modules;
 mod paths;
 mod reading;
 mod standing;
+mod taking;
 mod writing;
 
 pub use fault::{FilesFault, ReadFault, Unread};

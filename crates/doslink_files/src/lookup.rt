@@ -2,11 +2,13 @@
 ghost use Rattle.std.specs.Prelude.{◌≡◌, IfOk, map, string_bytes};
 ghost use Rattle.doslink_files.specs.Files.{IsFound, IsFoundNew, IsRegularNew};
 ghost use Rattle.doslink_files.specs.inside.Looking.{IsReadNew};
+ghost use Rattle.doslink_files.specs.inside.Taking.{IsTaken};
 ghost use Rattle.doslink_files.specs.Paths as spec;
 
 use crate::fault::ReadFault;
 use crate::paths::{has_extension, paths_of};
-use crate::reading::{InputFile, passed_over, read_first, read_input};
+use crate::reading::{InputFile, read_input};
+use crate::taking::{Taken, passed_over, take_first};
 use omf_files::{FileId, PlaceKind, World};
 use std::alloc::Allocator;
 use std::collections::BTreeSet;
@@ -20,6 +22,24 @@ fn extensions(name: &str) -> &'static [&'static str]
     } else {
         &["", ".LIB", ".lib"]
     }
+}
+
+/// The library of this name, looked up as `find_library` does. A regular file that is known isn't read again.
+///
+/// # Errors
+/// As those of `find_library`.
+pub(crate) fn take_library<W: World, A: Allocator + Copy>(
+    alloc: A,
+    world: &W,
+    folders: &[&str],
+    name: &str,
+    known: &BTreeSet<FileId, A>,
+) -> Result<Taken<A>, ReadFault>
+    ensures { IfOk result (IsTaken (IsFound (W.bytes world.now) (map (λ f. f.now) folders.now) name.now)
+        (W.holds world.now) known.now) }
+{
+    let paths = paths_of(alloc, folders, name, extensions(name))?;
+    take_first(alloc, world, &paths, known)
 }
 
 /// The library of this name, looked up in this folder, and then in each of the others, in their order: the first file
@@ -38,8 +58,11 @@ pub fn find_library<W: World, A: Allocator + Copy>(
     ensures { IfOk result (λ file. IsFound (W.bytes world.now) (map (λ f. f.now) folders.now) name.now
         (string_bytes file.path) file.bytes.items) }
 {
-    let paths = paths_of(alloc, folders, name, extensions(name))?;
-    read_first(alloc, world, &paths)
+    match take_library(alloc, world, folders, name, &BTreeSet::new(alloc))? {
+        Taken::New(file, _) => Ok(file),
+        // no file is known
+        Taken::Known(_) => unreachable!(),
+    }
 }
 
 /// What a look-up found.
@@ -69,7 +92,7 @@ fn read_regular<W: World, A: Allocator + Copy>(
         PlaceKind::Folder => Err(ReadFault::Folder),
         PlaceKind::Other => Err(ReadFault::Special),
         PlaceKind::Regular if known.contains(&looked.id) => Ok(Found::Known),
-        PlaceKind::Regular => Ok(Found::New(read_input(alloc, world, path)?)),
+        PlaceKind::Regular => Ok(Found::New(read_input(alloc, world, path, Some(looked.id))?)),
     }
 }
 

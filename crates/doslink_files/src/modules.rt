@@ -72,7 +72,7 @@ fn has_header(bytes: &[u8]) -> bool
 }
 
 /// Whether bytes begin as no file with modules does: it is neither a library nor an archive, and has no header.
-fn is_foreign(bytes: &[u8]) -> bool
+pub(crate) fn is_foreign(bytes: &[u8]) -> bool
     ensures { result ≡ spec.is_foreign bytes.now }
 {
     file_kind(bytes) == FileKind::Object && !has_header(bytes)

@@ -1,18 +1,23 @@
 //! Files that are read into memory.
-ghost use Rattle.std.specs.Prelude.{◌≡◌, ◌++◌, ◌∷◌, ℕ, [], All, IfErr, IfOk, IsTrue, List, OnOk, map, string_bytes};
+ghost use Rattle.std.specs.Prelude.{◌≡◌, ◌++◌, ◌∷◌, ◌⊎◌, ℕ, [], All, IfErr, IfOk, IfSome, IsTrue, List, OnOk, Some};
+ghost use Rattle.std.specs.Prelude.{map, string_bytes, true};
 ghost use Rattle.std.specs.declared.option.Option.{Option};
 ghost use Rattle.std.specs.List.{Contains};
 ghost use Rattle.doslink_files.specs.declared.reading.Sought as wanted;
 ghost use Rattle.doslink_files.specs.Files as spec-files;
-ghost use Rattle.doslink_files.specs.Files.{AreSought, AreUnread, IsFileOf, IsModulesPart, IsSought};
+ghost use Rattle.doslink_files.specs.Files.{AreSought, AreUnread, IsModulesPart, IsObjectPath, IsSought};
 ghost use Rattle.doslink_files.specs.Files.{IsTold, contents, sought_name};
 ghost use Rattle.doslink_files.specs.inside.Reading.{IsReading};
+ghost use Rattle.doslink_files.specs.inside.Taking.{IsTaken};
 ghost use Rattle.doslink_files.specs.Paths as spec;
+ghost use Rattle.doslink_files.specs.Standing.{has_file};
+ghost use Rattle.omf_files.specs.declared.world.FileId as ids;
 
 use crate::fault::{FilesFault, ReadFault, Unread};
-use crate::lookup::find_library;
+use crate::lookup::take_library;
 use crate::modules::read_modules;
 use crate::paths::{has_extension, paths_of};
+use crate::taking::{Taken, take_first};
 use omf_files::{FileId, World};
 use omf_library::{FileKind, file_kind};
 use std::alloc::{AllocError, Allocator, Global};
@@ -86,22 +91,26 @@ fn read_bytes<W: World, A: Allocator + Copy>(
     }
 }
 
-/// The file at a path, of which these bytes were read.
-fn file_at<W: World, A: Allocator + Copy>(
+/// The file at a path, which is this one, and of which these bytes were read.
+fn file_at<A: Allocator + Copy>(
     alloc: A,
-    world: &W,
     path: &str,
+    id: Option<FileId>,
     bytes: Vec<u8, A>,
 ) -> Result<InputFile<A>, AllocError>
     ensures path { IfOk result (λ file. string_bytes file.path ≡ path.now) }
     ensures bytes { IfOk result (λ file. file.bytes ≡ bytes) }
 {
-    let id = match world.look(path) {
-        Ok(looked) => Some(looked.id),
-        Err(_) => None,
-    };
     let path = String::from_str(alloc, path)?;
     Ok(InputFile { path, bytes, id })
+}
+
+/// Which file stands at a path, as far as the world can tell.
+fn id_at<W: World>(world: &W, path: &str) -> Option<FileId> {
+    match world.look(path) {
+        Ok(looked) => Some(looked.id),
+        Err(_) => None,
+    }
 }
 
 /// The file at a path, read to its end.
@@ -117,10 +126,10 @@ pub fn read_file<W: World, A: Allocator + Copy>(
     ensures told { IfOk result (λ file. IsTold (W.bytes world.now path.now) file.bytes.items) }
 {
     let bytes = read_bytes(alloc, world, path)?;
-    Ok(file_at(alloc, world, path, bytes)?)
+    Ok(file_at(alloc, path, id_at(world, path), bytes)?)
 }
 
-/// The file at a path, read up to the end of its modules, and to its own where they have none.
+/// The file at a path, which is this one, read up to the end of its modules, and to its own where they have none.
 ///
 /// # Errors
 /// As those of `read_file`.
@@ -128,12 +137,13 @@ pub(crate) fn read_input<W: World, A: Allocator + Copy>(
     alloc: A,
     world: &W,
     path: &str,
+    id: Option<FileId>,
 ) -> Result<InputFile<A>, ReadFault>
     ensures path { IfOk result (λ file. string_bytes file.path ≡ path.now) }
     ensures told { IfOk result (λ file. IsModulesPart (W.bytes world.now path.now) file.bytes.items) }
 {
     let bytes = read_modules(alloc, open(world, path)?)?;
-    Ok(file_at(alloc, world, path, bytes)?)
+    Ok(file_at(alloc, path, id, bytes)?)
 }
 
 /// What is put behind the path of a module, in turn.
@@ -147,74 +157,40 @@ fn object_extensions(path: &str) -> &'static [&'static str]
     }
 }
 
-/// Why a look-up found nothing so far, where it goes on behind a file that isn't read.
-///
-/// # Errors
-/// The fault, where it doesn't go on: want of memory, or that a read failed.
-pub(crate) fn passed_over(before: ReadFault, fault: ReadFault) -> Result<ReadFault, ReadFault> {
-    match fault {
-        ReadFault::Memory | ReadFault::Device(_) => Err(fault),
-        ReadFault::Absent => Ok(before),
-        ReadFault::Folder | ReadFault::Forbidden | ReadFault::Special | ReadFault::Unopened(_) =>
-            Ok(fault),
-    }
-}
-
-/// The first file at some paths that can be opened and is no folder.
-///
-/// # Errors
-/// Want of memory; that a file can't be read to its end; else why the last of those that are there isn't opened, and
-/// `Absent` where none is.
-pub(crate) fn read_first<W: World, A: Allocator + Copy>(
-    alloc: A,
-    world: &W,
-    paths: &[String<A>],
-) -> Result<InputFile<A>, ReadFault>
-    ensures path { IfOk result (λ file. Contains (map string_bytes paths.now) (string_bytes file.path)) }
-    ensures told { IfOk result (λ file. IsModulesPart (W.bytes world.now (string_bytes file.path)) file.bytes.items) }
-{
-    let mut why = ReadFault::Absent;
-    for path in paths {
-        match read_input(alloc, world, path.as_str()) {
-            Ok(file) => return Ok(file),
-            Err(fault) => why = passed_over(why, fault)?,
-        }
-    }
-    Err(why)
-}
-
 /// The module that is named by a path, looked up at it, and then in each of these folders, in their order: the first
 /// file that can be opened, of the path as it stands and, where its last part has no dot, with `.OBJ` or `.obj` behind
 /// it. A folder of such a name is passed over.
 ///
 /// # Errors
-/// As those of `read_first`.
-fn find_module<W: World, A: Allocator + Copy>(
+/// As those of `take_first`.
+fn take_module<W: World, A: Allocator + Copy>(
     alloc: A,
     world: &W,
     folders: &[&str],
     path: &str,
-) -> Result<InputFile<A>, ReadFault>
-    ensures { IfOk result (λ file. IsFileOf (W.bytes world.now) (map (λ f. f.now) folders.now) path.now
-        file.bytes.items) }
+    known: &BTreeSet<FileId, A>,
+) -> Result<Taken<A>, ReadFault>
+    ensures { IfOk result (IsTaken (λ found bytes. IsObjectPath (map (λ f. f.now) folders.now) path.now found
+        × IsModulesPart (W.bytes world.now found) bytes) (W.holds world.now) known.now) }
 {
     let paths = paths_of(alloc, folders, path, object_extensions(path))?;
-    read_first(alloc, world, &paths)
+    take_first(alloc, world, &paths, known)
 }
 
 /// A file that is wanted.
-fn read_one<W: World, A: Allocator + Copy>(
+fn take_one<W: World, A: Allocator + Copy>(
     alloc: A,
     world: &W,
     folders: Folders<'_>,
     sought: Sought<'_>,
-) -> Result<InputFile<A>, ReadFault>
-    ensures { IfOk result (λ file. IsSought (W.bytes world.now) (map (λ f. f.now) folders.entry.objects.now)
-        (map (λ f. f.now) folders.entry.libraries.now) sought.entry file.bytes.items) }
+    known: &BTreeSet<FileId, A>,
+) -> Result<Taken<A>, ReadFault>
+    ensures { IfOk result (IsTaken (λ path. IsSought (W.bytes world.now) (map (λ f. f.now) folders.entry.objects.now)
+        (map (λ f. f.now) folders.entry.libraries.now) sought.entry) (W.holds world.now) known.now) }
 {
     match sought {
-        Sought::File(path) => find_module(alloc, world, folders.objects, path),
-        Sought::Library(name) => find_library(alloc, world, folders.libraries, name),
+        Sought::File(path) => take_module(alloc, world, folders.objects, path, known),
+        Sought::Library(name) => take_library(alloc, world, folders.libraries, name, known),
     }
 }
 
@@ -244,6 +220,8 @@ struct Reading<'a, A: Allocator + Copy> {
     libraries: BTreeSet<Sought<'a>, A>,
     /// Where each library and archive stands among them.
     places: BTreeMap<FileId, usize, A>,
+    /// Those of the libraries and archives that are regular files.
+    known: BTreeSet<FileId, A>,
     /// What isn't read, and why.
     unread: Vec<Unread<'a>, A>,
 }
@@ -262,24 +240,38 @@ impl<'a, A: Allocator + Copy> Reading<'a, A> {
         }
     }
 
-    /// Marks the next file as a library or an archive: which it is, as far as the world can tell.
-    fn mark(&mut self, id: Option<FileId>) -> Result<(), AllocError>
+    /// Marks the next file as a library or an archive: which it is, as far as the world can tell, and which regular
+    /// file.
+    fn mark(&mut self, id: Option<FileId>, regular: Option<FileId>) -> Result<(), AllocError>
         ensures files { self.new.files ≡ self.old.files }
         ensures libraries { self.new.libraries ≡ self.old.libraries }
         ensures unread { self.new.unread ≡ self.old.unread }
+        ensures known { OnOk result ((q : ids.FileId) → has_file self.new.known q ≡ true
+            → (has_file self.old.known q ≡ true) ⊎ (regular ≡ Some q)) }
     {
         if let Some(id) = id {
             self.places.insert(id, self.files.len())?;
         }
+        if let Some(id) = regular {
+            self.known.insert(id)?;
+        }
         Ok(())
     }
 
-    /// Puts a file behind those that were read. A library or an archive that stands there already is left out.
-    fn keep(&mut self, one: Sought<'a>, file: InputFile<A>) -> Result<(), AllocError>
-        ensures files { OnOk result ((told : List ℕ → Option (List ℕ)) (objects libraries : List (List ℕ))
-            (sought : List wanted.Sought) → IsSought told objects libraries one.entry file.bytes.items
-            → IsReading told objects libraries sought self.old
-            → IsReading told objects libraries (sought ++ one.entry ∷ []) self.new) }
+    /// Puts a file behind those that were read: it is this regular file, or none. A library or an archive that stands
+    /// there already is left out.
+    fn keep(
+        &mut self,
+        one: Sought<'a>,
+        file: InputFile<A>,
+        regular: Option<FileId>,
+    ) -> Result<(), AllocError>
+        ensures files { OnOk result ((told : List ℕ → Option (List ℕ)) (holds : ids.FileId → Option (List ℕ))
+            (objects libraries : List (List ℕ)) (sought : List wanted.Sought)
+            → IsSought told objects libraries one.entry file.bytes.items
+            → IfSome regular (λ id. IsModulesPart (holds id) file.bytes.items)
+            → IsReading told holds objects libraries sought self.old
+            → IsReading told holds objects libraries (sought ++ one.entry ∷ []) self.new) }
         ensures unread { self.new.unread ≡ self.old.unread }
     {
         if is_library(&file.bytes) {
@@ -287,15 +279,33 @@ impl<'a, A: Allocator + Copy> Reading<'a, A> {
             if self.has_bytes_of(&file) {
                 return Ok(());
             }
-            self.mark(file.id)?;
+            self.mark(file.id, regular)?;
         }
         self.files.push(file)?;
         Ok(())
     }
+
+    /// Takes what was found of a file that is wanted.
+    fn take(&mut self, one: Sought<'a>, taken: Taken<A>) -> Result<(), AllocError>
+        ensures files { OnOk result ((told : List ℕ → Option (List ℕ)) (holds : ids.FileId → Option (List ℕ))
+            (objects libraries : List (List ℕ)) (sought : List wanted.Sought)
+            → IsTaken (λ path. IsSought told objects libraries one.entry) holds self.old.known taken
+            → IsReading told holds objects libraries sought self.old
+            → IsReading told holds objects libraries (sought ++ one.entry ∷ []) self.new) }
+        ensures unread { self.new.unread ≡ self.old.unread }
+    {
+        match taken {
+            Taken::New(file, regular) => self.keep(one, file, regular),
+            Taken::Known(_) => {
+                self.libraries.insert(one)?;
+                Ok(())
+            }
+        }
+    }
 }
 
-/// Reads one more file that is wanted, unless it was wanted before by the same path or name, and is a library or an
-/// archive.
+/// Reads one more file that is wanted, unless it is a library or an archive that was wanted before by the same path or
+/// name, or that is a regular file that was read before.
 fn read_next<'a, W: World, A: Allocator + Copy>(
     alloc: A,
     world: &W,
@@ -303,9 +313,9 @@ fn read_next<'a, W: World, A: Allocator + Copy>(
     one: Sought<'a>,
     reading: &mut Reading<'a, A>,
 ) -> Result<(), AllocError>
-    ensures files { OnOk result ((sought : List wanted.Sought) → IsReading (W.bytes world.now)
+    ensures files { OnOk result ((sought : List wanted.Sought) → IsReading (W.bytes world.now) (W.holds world.now)
         (map (λ f. f.now) folders.entry.objects.now) (map (λ f. f.now) folders.entry.libraries.now) sought reading.old
-        → IsReading (W.bytes world.now) (map (λ f. f.now) folders.entry.objects.now)
+        → IsReading (W.bytes world.now) (W.holds world.now) (map (λ f. f.now) folders.entry.objects.now)
         (map (λ f. f.now) folders.entry.libraries.now) (sought ++ one.entry ∷ []) reading.new) }
     ensures unread { OnOk result ((names : List (List ℕ)) → Contains names (sought_name one.entry)
         → All (λ u. Contains names u.name.now) reading.old.unread.items
@@ -314,8 +324,8 @@ fn read_next<'a, W: World, A: Allocator + Copy>(
     if reading.libraries.contains(&one) {
         return Ok(());
     }
-    match read_one(alloc, world, folders, one) {
-        Ok(file) => reading.keep(one, file),
+    match take_one(alloc, world, folders, one, &reading.known) {
+        Ok(taken) => reading.take(one, taken),
         Err(ReadFault::Memory) => Err(AllocError),
         Err(fault) => {
             let name = one.name();
@@ -330,8 +340,8 @@ fn read_next<'a, W: World, A: Allocator + Copy>(
 /// `.OBJ` or `.obj` behind it. Libraries are looked up as `find_library` does, in the folders of libraries.
 ///
 /// A library or an archive whose bytes stand among the files before is left out: a name that it offers is found in the
-/// first of the two. Where the same path or name led to it, it isn't read again either. A module that is wanted twice
-/// is there twice.
+/// first of the two. Where it is the same regular file, whatever the path or name that led to it, it isn't read again
+/// either, nor is one that the same path or name led to. A module that is wanted twice is there twice.
 ///
 /// # Errors
 /// All that can't be found or read, and why; or want of memory.
@@ -349,6 +359,7 @@ pub fn read_sought<'a, W: World, A: Allocator + Copy>(
         files: Vec::new(alloc),
         libraries: BTreeSet::new(alloc),
         places: BTreeMap::new(alloc),
+        known: BTreeSet::new(alloc),
         unread: Vec::new(alloc),
     };
     for one in sought {

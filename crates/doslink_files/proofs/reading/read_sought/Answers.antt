@@ -15,16 +15,19 @@ loop-one-init g c =
     let objects = map (λ f. f.now) c.args.folders.objects.now in
     let libraries = map (λ f. f.now) c.args.folders.libraries.now in
     let told = g.W.World.bytes c.args.world.now in
+    let holds = g.W.World.holds c.args.world.now in
     let none : Reading g.row.A.Denot = record {
       files = c.new.result;
       libraries = c.new-2.result;
       places = c.new-3.result;
-      unread = c.new-4.result;
+      known = c.new-4.result;
+      unread = c.new-5.result;
     } in
     let named : Unread → Type 0 = λ one. Contains (map sought_name c.args.sought.now) one.name.now in
     record {
-      files = reading-none told objects libraries none c.new.ensures.items c.new-2.ensures.empty;
-      unread = subst (All named) (sym c.new-4.ensures.items) (All-nil named);
+      files = reading-none told holds objects libraries none c.new.ensures.items c.new-2.ensures.empty
+          c.new-4.ensures.empty;
+      unread = subst (All named) (sym c.new-5.ensures.items) (All-nil named);
     }
 
 pub loop-one-preserved : goal.loop-one-preserved
@@ -32,9 +35,10 @@ loop-one-preserved g c =
     let objects = map (λ f. f.now) c.args.folders.objects.now in
     let libraries = map (λ f. f.now) c.args.folders.libraries.now in
     let told = g.W.World.bytes c.args.world.now in
+    let holds = g.W.World.holds c.args.world.now in
     let sought = c.args.sought.now in
     record {
-      files = subst (λ ss. IsReading told objects libraries ss c.read_next.new.reading)
+      files = subst (λ ss. IsReading told holds objects libraries ss c.read_next.new.reading)
           (sym (take_more sought c.loop-one.one-index _ c.loop-one-test.true))
           (c.in_ok-read_next.ensures.files _ c.loop-one.invariant.files);
       unread = c.in_ok-read_next.ensures.unread (map sought_name sought)
