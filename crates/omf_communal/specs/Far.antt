@@ -1,6 +1,6 @@
--- The far communal variables that modules reach by their offsets alone (TIS OMF 1.1, FIXUPP, the location). A far
--- variable has segments of its own, and so a frame that no other segment has: whoever reaches it loads that frame, by a
--- base or a pointer to its name.
+-- The far communal variables that modules reach by their offsets alone (TIS OMF 1.1, FIXUPP, the location and the
+-- frame methods). A far variable has segments of its own, and so a frame that no other segment has: whoever reaches it
+-- loads that frame, by a base or a pointer whose frame is that of its name.
 use Rattle.std.specs.Prelude.{ℕ, ◌-◌, ◌==◌, Bool, true, false, not, ◌&&◌, if◌then◌else◌, List, [], ◌∷◌, filter, map, slice_get}
 use Rattle.std.specs.Prelude.{None, bytes_eq, codes}
 use Rattle.std.specs.declared.option.Option.{Option}
@@ -8,6 +8,8 @@ use Rattle.std.specs.List.{enumerate_from, filter_map, flat_map, list_any}
 use Rattle.std.specs.Option.{option_map, option_map_or}
 use Rattle.omf_record.specs.declared.externals.PublicBase.{PublicBase}
 use Rattle.omf_record.specs.declared.externals.PublicBase.TheVariants.{AtFrame, InSegment}
+use Rattle.omf_record.specs.declared.fixups.FrameMethod.{FrameMethod}
+use Rattle.omf_record.specs.declared.fixups.FrameMethod.TheVariants as by
 use Rattle.omf_record.specs.declared.fixups.Location.{Location}
 use Rattle.omf_record.specs.declared.fixups.Location.TheVariants as at
 use Rattle.omf_record.specs.declared.fixups.TargetMethod.{TargetMethod}
@@ -21,8 +23,9 @@ use Rattle.omf_communal.specs.declared.declarations.Extent.TheVariants.{Near, Fa
 use Rattle.omf_communal.specs.declared.far.Reached as lent
 use Rattle.omf_communal.specs.Deciding.{Variable}
 
--- a location that has an offset alone: 1 and 5
+-- a location that has an offset, or a byte of one, alone: 0, 1 and 5
 abbrev pub is_offset : Location → Bool
+is_offset at.LowByte = true
 is_offset at.Offset = true
 is_offset at.LoaderOffset = true
 is_offset _ = false
@@ -39,13 +42,24 @@ target_name m (to.External index) = option_map (λ e. e.name) (slice_get m.exter
 target_name m (to.Segment index) = None
 target_name m (to.Group index) = None
 
--- that of a fix-up at such a location
-abbrev pub name_at : (Location → Bool) → says.Module → ResolvedFixup → Option (List ℕ)
-name_at test m f = if test f.location then target_name m f.target else None
+-- the name of the external whose frame a reference has: F2 by that external, F5 by the target; F0 and F1 have the frame
+-- of a segment or a group, F4 that of the location's segment (TIS OMF 1.1, FIXUPP, the frame methods)
+abbrev pub frame_name : says.Module → TargetMethod → FrameMethod → Option (List ℕ)
+frame_name m target (by.By method) = target_name m method
+frame_name m target by.Location = None
+frame_name m target by.Target = target_name m target
+
+-- the name whose offset a fix-up puts down alone
+abbrev pub offset_name : says.Module → ResolvedFixup → Option (List ℕ)
+offset_name m f = if is_offset f.location then target_name m f.target else None
+
+-- the name whose frame one puts down
+abbrev pub base_name : says.Module → ResolvedFixup → Option (List ℕ)
+base_name m f = if is_base f.location then frame_name m f.target f.frame else None
 
 -- those of the fix-ups of a module
-abbrev pub names_at : (Location → Bool) → says.Module → List (List ℕ)
-names_at test m = flat_map (λ d. filter_map (name_at test m) d.fixups) m.data_records
+abbrev pub names_at : (ResolvedFixup → Option (List ℕ)) → says.Module → List (List ℕ)
+names_at name m = flat_map (λ d. filter_map name d.fixups) m.data_records
 
 -- the names of far variables
 abbrev pub is_far : Extent → Bool
@@ -78,11 +92,11 @@ abbrev pub is_among : Names → List (List ℕ) → (name : List ℕ) → Bool
 is_among names list name = list_any (agrees names name) list
 
 -- an external of a module has a far variable's name, of one that is local to it where the external is, some fix-up at
--- an offset refers to that, and none at a base or a pointer does
+-- an offset refers to that, and none at a base or a pointer has its frame
 abbrev pub is_reached : Names → (far : List (List ℕ)) → says.Module → says.ExternalSymbol → Bool
 is_reached names far m e =
     is_among names (if e.local then local_far_names m else far) e.name
-    && (is_among names (names_at is_offset m) e.name && not (is_among names (names_at is_base m) e.name))
+    && (is_among names (names_at (offset_name m) m) e.name && not (is_among names (names_at (base_name m) m) e.name))
 
 -- such a name, and the module's place in the program
 pub record Reached : Type 0 where

@@ -20,7 +20,7 @@ use crate::modules::{NameSet, insert_offered, is_offered};
 use indexmap::IndexSet;
 use omf_module::{ExternalSymbol, Module, PublicSymbol, ResolvedFixup};
 use omf_place::Names;
-use omf_record::{Location, PublicBase, TargetMethod};
+use omf_record::{FrameMethod, Location, PublicBase, TargetMethod};
 use std::alloc::{AllocError, Allocator};
 
 /// A far communal variable that a module reaches by its offset alone.
@@ -32,21 +32,30 @@ pub struct Reached<'m> {
     pub name: &'m [u8],
 }
 
-/// What fix-ups are at.
+/// What names are sought.
 #[derive(Clone, Copy)]
 pub(crate) enum Sought {
+    /// Those whose offsets fix-ups put down alone.
     Offset,
+    /// Those whose frames they put down.
     Base,
 }
 
-/// Whether a location is one of those.
-fn is_at(sought: Sought, location: Location) -> bool
-    ensures { result ≡ seek.is_at sought location }
+/// Whether a location has an offset, or a byte of one, alone.
+fn is_offset(location: Location) -> bool
+    ensures { result ≡ reach.is_offset location }
 {
-    match sought {
-        Sought::Offset => matches!(location, Location::Offset | Location::LoaderOffset),
-        Sought::Base => matches!(location, Location::Base | Location::Pointer),
+    match location {
+        Location::LowByte | Location::Offset | Location::LoaderOffset => true,
+        Location::Base | Location::Pointer => false,
     }
+}
+
+/// Whether a location has a frame.
+fn is_base(location: Location) -> bool
+    ensures { result ≡ reach.is_base location }
+{
+    matches!(location, Location::Base | Location::Pointer)
 }
 
 /// The name of the external that is a target.
@@ -67,22 +76,64 @@ fn target_name<'m, A: Allocator + Copy>(
     }
 }
 
-/// The name that a fix-up refers to, where it is at what is sought.
-fn name_at<'m, A: Allocator + Copy>(
+/// The name of the external whose frame a reference has.
+fn frame_name<'m, A: Allocator + Copy>(
     from: &'m Module<A>,
-    sought: Sought,
+    target: TargetMethod,
+    frame: FrameMethod,
+) -> Option<&'m [u8]>
+    ensures { option_map (λ n. n.now) result ≡ reach.frame_name from.now target frame }
+{
+    match frame {
+        FrameMethod::By(method) => target_name(from, method),
+        FrameMethod::Location => None,
+        FrameMethod::Target => target_name(from, target),
+    }
+}
+
+/// The name whose offset a fix-up puts down alone.
+fn offset_name<'m, A: Allocator + Copy>(
+    from: &'m Module<A>,
     fixup: &ResolvedFixup,
 ) -> Option<&'m [u8]>
-    ensures { option_map (λ n. n.now) result ≡ reach.name_at (seek.is_at sought) from.now fixup.now }
+    ensures { option_map (λ n. n.now) result ≡ reach.offset_name from.now fixup.now }
 {
-    if is_at(sought, fixup.location) {
+    if is_offset(fixup.location) {
         target_name(from, fixup.target)
     } else {
         None
     }
 }
 
-/// Appends the names that fix-ups of a module refer to.
+/// The name whose frame a fix-up puts down.
+fn base_name<'m, A: Allocator + Copy>(
+    from: &'m Module<A>,
+    fixup: &ResolvedFixup,
+) -> Option<&'m [u8]>
+    ensures { option_map (λ n. n.now) result ≡ reach.base_name from.now fixup.now }
+{
+    if is_base(fixup.location) {
+        frame_name(from, fixup.target, fixup.frame)
+    } else {
+        None
+    }
+}
+
+/// The name that is sought of a fix-up.
+fn name_at<'m, A: Allocator + Copy>(
+    from: &'m Module<A>,
+    sought: Sought,
+    fixup: &ResolvedFixup,
+) -> Option<&'m [u8]>
+    ensures { option_map (λ n. n.now) result ≡ seek.name_at sought from.now fixup.now }
+{
+    match sought {
+        Sought::Offset => offset_name(from, fixup),
+        Sought::Base => base_name(from, fixup),
+    }
+}
+
+/// Appends the names that are sought of some fix-ups of a module.
 fn push_names<'m, A: Allocator + Copy>(
     names: &mut Vec<&'m [u8], A>,
     from: &'m Module<A>,
@@ -90,7 +141,7 @@ fn push_names<'m, A: Allocator + Copy>(
     fixups: &[ResolvedFixup],
 ) -> Result<(), AllocError>
     ensures { OnOk result (bytes_of names.new.items ≡
-        bytes_of names.old.items ++ filter_map (reach.name_at (seek.is_at sought) from.now) fixups.now) }
+        bytes_of names.old.items ++ filter_map (seek.name_at sought from.now) fixups.now) }
 {
     for fixup in fixups {
         if let Some(name) = name_at(from, sought, fixup) {
@@ -100,13 +151,13 @@ fn push_names<'m, A: Allocator + Copy>(
     Ok(())
 }
 
-/// The names that the fix-ups of a module refer to.
+/// The names that are sought of the fix-ups of a module.
 fn names_at<'m, A: Allocator + Copy>(
     alloc: A,
     from: &'m Module<A>,
     sought: Sought,
 ) -> Result<Vec<&'m [u8], A>, AllocError>
-    ensures { IfOk result (λ v. bytes_of v.items ≡ reach.names_at (seek.is_at sought) from.now) }
+    ensures { IfOk result (λ v. bytes_of v.items ≡ reach.names_at (seek.name_at sought from.now) from.now) }
 {
     let mut names = Vec::new(alloc);
     for index in 0..from.data_record_count() {
@@ -194,7 +245,7 @@ fn local_far_names<'m, A: Allocator + Copy>(
     Ok(names)
 }
 
-/// The names of far variables, and those that the fix-ups of a module refer to.
+/// The names of far variables, and those whose offsets and whose frames the fix-ups of a module put down.
 #[derive(Clone, Copy)]
 pub(crate) struct NameSets<'s, 'm, A: Allocator + Copy> {
     far: &'s NameSet<'m, A>,
@@ -324,7 +375,7 @@ fn push_reached<'m, A: Allocator + Copy>(
 
 /// The far ones of a program's variables, and those that are local to a module, that its modules reach by their offsets
 /// alone, each once, in order of modules and of their external names. Such a module has a fix-up at an offset of the
-/// name, and none at a base or a pointer.
+/// name, or at a byte of it, and none at a base or a pointer whose frame is that of the name.
 pub fn far_by_offset<'m, A: Allocator + Copy>(
     alloc: A,
     names: Names,

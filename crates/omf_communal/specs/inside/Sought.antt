@@ -1,10 +1,12 @@
--- Locations that are sought.
-use Rattle.std.specs.Prelude.{Bool}
-use Rattle.omf_record.specs.declared.fixups.Location.{Location}
+-- What is sought of fix-ups.
+use Rattle.std.specs.Prelude.{ℕ, List}
+use Rattle.std.specs.declared.option.Option.{Option}
+use Rattle.omf_module.specs.declared.ResolvedFixup.{ResolvedFixup}
+use Rattle.omf_module.specs.Module.{Module}
 use Rattle.omf_communal.specs.declared.far.Sought.{Sought}
 use Rattle.omf_communal.specs.declared.far.Sought.TheVariants as sought
-use Rattle.omf_communal.specs.Far.{is_base, is_offset}
+use Rattle.omf_communal.specs.Far.{base_name, offset_name}
 
-abbrev pub is_at : Sought → Location → Bool
-is_at sought.Offset location = is_offset location
-is_at sought.Base location = is_base location
+abbrev pub name_at : Sought → Module → ResolvedFixup → Option (List ℕ)
+name_at sought.Offset = offset_name
+name_at sought.Base = base_name

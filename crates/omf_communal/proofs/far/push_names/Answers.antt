@@ -1,16 +1,15 @@
 use Rattle.std.proofs.Common.{◌≡◌, ◌∙◌, ap, map, sym}
 use Rattle.std.specs.Borrow.{Bor}
 use Rattle.std.specs.Option.{option_map}
-use Rattle.omf_communal.specs.Far.{name_at}
 use Rattle.omf_communal.specs.Modules.{bytes_of}
-use Rattle.omf_communal.specs.inside.Sought.{is_at}
+use Rattle.omf_communal.specs.inside.Sought.{name_at}
 use Rattle.omf_communal.proofs.Reaching.{name-more, name-none}
 use Rattle.omf_communal.proofs.far.push_names.Goals as goal
 use Rattle.omf_communal.proofs.far.push_names.Goals.{in-Some+in_ok-push, in_default}
 
 pub loop-fixup-preserved : goal.loop-fixup-preserved
 loop-fixup-preserved g c =
-    let f = name_at (is_at c.args.sought) c.args.from.now in
+    let f = name_at c.args.sought c.args.from.now in
     let xs = c.args.fixups.now in
     let i = c.loop-fixup.fixup-index in
     let front = bytes_of c.args.names.now.items in
