@@ -55,20 +55,20 @@ is_sort_word word = is_short word (codes "global") 2 || is_short word (codes "al
 abbrev pub is_harmless : Text → Bool
 is_harmless word =
     is_short word (codes "verbose") 1 || is_short word (codes "statics") 4 || is_short word (codes "artificial") 3
-    || is_short word (codes "showdead") 3 || is_keyword word (codes "cache") || is_keyword word (codes "nocache")
-    || is_keyword word (codes "farcalls") || is_keyword word (codes "nofarcalls")
+    || is_short word (codes "showdead") 3 || is_short word (codes "cache") 3 || is_short word (codes "nocache") 5
+    || is_short word (codes "farcalls") 2 || is_short word (codes "nofarcalls") 3
     || is_short word (codes "maxerrors") 4 || is_short word (codes "mangled") 3
 
 -- whether an option asks that names agree with regard to case, or without
 abbrev pub is_exact : Text → Bool
 is_exact word =
-    is_short word (codes "caseexact") 1 || is_keyword word (codes "nocaseignore")
-    || is_keyword word (codes "noignorecase")
+    is_short word (codes "caseexact") 1 || is_short word (codes "nocaseignore") 7
+    || is_short word (codes "noignorecase") 3
 
 abbrev pub is_ignoring : Text → Bool
 is_ignoring word =
-    is_keyword word (codes "nocaseexact") || is_keyword word (codes "caseignore")
-    || is_keyword word (codes "ignorecase")
+    is_short word (codes "nocaseexact") 5 || is_short word (codes "caseignore") 5
+    || is_short word (codes "ignorecase") 2
 
 -- the option of a name that takes a value
 abbrev pub valued_named : Text → Option Switch

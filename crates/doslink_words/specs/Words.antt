@@ -160,8 +160,8 @@ is_no_form (Some word) at =
 abbrev pub map_form_named : Text → Option MapForm
 map_form_named word =
     if is_keyword word (codes "omf") then Some map_form.Omf
-    else (if is_keyword word (codes "link") then Some map_form.Link
-    else (if is_keyword word (codes "tlink") then Some map_form.Tlink
+    else (if is_keyword word (codes "link") then Some (map_form.Link false)
+    else (if is_keyword word (codes "tlink") then Some (map_form.Tlink false false)
     else None))
 
 -- the form of the map as a word: that of `omf` where none is given

@@ -457,9 +457,9 @@ fn follow_lines<'a>(
 ///   a fault.
 /// - `output raw [offset=N]` (`out`): a raw image at paragraph 0, from this address on.
 /// - `option X[=VALUE][,..]` (`op`): `quiet` (`q`), `map[=FILE]` (`m`), `stack=BYTES` (`st`), `dosseg` (`dos`),
-///   `caseexact` (`c`), `ignorecase`, `nodefaultlibs` (`nod`), `start=NAME` (`star`). Of `symfile` and what changes no
-///   DOS program (`verbose`, `statics`, `artificial`, `showdead`, `cache`, `nocache`, `farcalls`, `nofarcalls`,
-///   `maxerrors`, `mangled`) a warning is told; any other is a fault.
+///   `caseexact` (`c`), `ignorecase` (`ig`), `nodefaultlibs` (`nod`), `start=NAME` (`star`). Of `symfile` and what
+///   changes no DOS program (`verbose`, `statics`, `artificial`, `showdead`, `cache`, `nocache`, `farcalls`,
+///   `nofarcalls`, `maxerrors`, `mangled`) a warning is told; any other is a fault.
 /// - `order clname CLASS [segment SEGMENT..] ..` (`ord`): the order of classes, and of segments in them.
 /// - `reference A[,B..]` (`ref`), a list as of `file`: names that are wanted. `alias A=B[,C=D..]` (`a`): the name A
 ///   means B. These and that of `start` have 255 bytes at most.

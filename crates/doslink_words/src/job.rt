@@ -91,6 +91,8 @@ pub enum Form {
     Raw { paragraph: u16, from: u32 },
     /// The file of a device driver, .SYS: the bytes of a program without relocated words.
     Driver,
+    /// The bytes of a program in one segment from its start on, which is at 0, or at 100H as that of a .COM file.
+    FromStart,
 }
 
 /// Whether a program's file of this form has a header, which says where the program starts and where its stack is. One
@@ -116,13 +118,17 @@ pub enum MapForm {
     /// That of `omf`.
     Omf,
     /// That of Microsoft's LINK: start, stop, length, name and class of segments, and publics twice.
-    Link,
-    /// That of LINK, with the line numbers of the modules.
-    NumberedLink,
+    Link {
+        /// Whether it has the line numbers of the modules.
+        line_numbers: bool,
+    },
     /// That of Borland's TLINK.
-    Tlink,
-    /// That of TLINK, with the line numbers of the modules.
-    NumberedTlink,
+    Tlink {
+        /// Whether it has the line numbers of the modules.
+        line_numbers: bool,
+        /// Whether it has the detailed map of segments: each module's part of each.
+        details: bool,
+    },
 }
 
 /// The order in which segments stand.

@@ -164,10 +164,10 @@ fn is_harmless(word: &str) -> bool
         || is_short(word, "statics", 4)
         || is_short(word, "artificial", 3)
         || is_short(word, "showdead", 3)
-        || is(word, "cache")
-        || is(word, "nocache")
-        || is(word, "farcalls")
-        || is(word, "nofarcalls")
+        || is_short(word, "cache", 3)
+        || is_short(word, "nocache", 5)
+        || is_short(word, "farcalls", 2)
+        || is_short(word, "nofarcalls", 3)
         || is_short(word, "maxerrors", 4)
         || is_short(word, "mangled", 3)
 }
@@ -176,14 +176,18 @@ fn is_harmless(word: &str) -> bool
 fn is_exact(word: &str) -> bool
     ensures { result ≡ spec.is_exact word.now }
 {
-    is_short(word, "caseexact", 1) || is(word, "nocaseignore") || is(word, "noignorecase")
+    is_short(word, "caseexact", 1)
+        || is_short(word, "nocaseignore", 7)
+        || is_short(word, "noignorecase", 3)
 }
 
 // Whether an option of this name asks that names agree without regard to case.
 fn is_ignoring(word: &str) -> bool
     ensures { result ≡ spec.is_ignoring word.now }
 {
-    is(word, "nocaseexact") || is(word, "caseignore") || is(word, "ignorecase")
+    is_short(word, "nocaseexact", 5)
+        || is_short(word, "caseignore", 5)
+        || is_short(word, "ignorecase", 2)
 }
 
 // The option of this name that takes a value.

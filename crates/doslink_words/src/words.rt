@@ -334,9 +334,14 @@ fn map_form_named(word: &str) -> Option<MapForm>
     if is(word, "omf") {
         Some(MapForm::Omf)
     } else if is(word, "link") {
-        Some(MapForm::Link)
+        Some(MapForm::Link {
+            line_numbers: false,
+        })
     } else if is(word, "tlink") {
-        Some(MapForm::Tlink)
+        Some(MapForm::Tlink {
+            line_numbers: false,
+            details: false,
+        })
     } else {
         None
     }

@@ -1,21 +1,22 @@
 -- What holds of the loops over options and tokens.
-use Rattle.std.proofs.Common.{◌≡◌, ◌∙◌, ◌+◌, ◌<◌, ◌≤◌, ℕ, Bool, true, false, cond, List, [], ◌∷◌}
-use Rattle.std.proofs.Common.{length, drop, get_or, Result, Ok, Err, ap, subst, sym}
+use Rattle.std.proofs.Common.{◌≡◌, ◌∙◌, ◌+◌, ◌<◌, ◌≤◌, ℕ, Bool, true, false, cond, List, [], ◌∷◌, ◌++◌}
+use Rattle.std.proofs.Common.{length, drop, get_or, Option, Some, None, Result, Ok, Err, ap, subst, sym}
 use Rattle.std.specs.Borrow.{Bor}
+use Rattle.std.specs.Option.{option_map_or}
 use Rattle.std.proofs.lemmas.List.{at_drop_all, at_drop_more, get_or-map}
 use Rattle.clap.specs.Words.{Text}
 use Rattle.doslink_words.specs.Directives.{and_then}
 use Rattle.doslink_words.specs.Tokens.{texts}
 use Rattle.makefile_words.specs.Lines.{SaidLine, WrongWord, front_meaning, has_object, if_said, nothing_said, on_token}
 use Rattle.makefile_words.specs.Lines.{option_meaning, part_meaning, rest_meaning, tokens_meaning, with_object}
-use Rattle.makefile_words.specs.Lines.{with_options}
+use Rattle.makefile_words.specs.Lines.{folder_name, with_folders, with_options}
 use Rattle.makefile_words.specs.Jobs.{IsJobOf, Means}
 use Rattle.makefile_words.specs.Tokens.{PlacedPiece, text_of, tokens, tokens_ending}
 use Rattle.makefile_words.specs.inside.Follows.{Follows}
 use Rattle.makefile_words.specs.inside.Lines.{IsFaultAt, Says}
 use Rattle.makefile_words.specs.inside.Tokens.{pieces, placed_of}
 use Rattle.makefile_words.specs.declared.faults.FaultKind.{FaultKind}
-use Rattle.makefile_words.specs.declared.faults.FaultKind.TheVariants.{NoObject}
+use Rattle.makefile_words.specs.declared.faults.FaultKind.TheVariants.{NoObject, PartlyQuoted}
 use Rattle.makefile_words.specs.declared.faults.LineFault.{LineFault}
 use Rattle.makefile_words.specs.declared.faults.LineFault.TheVariants as line_fault
 use Rattle.makefile_words.specs.declared.job.MakefileJob.{MakefileJob}
@@ -64,6 +65,31 @@ pub options_end : (place : ℕ) (language : Language) (said : SaidLine) (all : L
     → with_options place language (drop i all) said ≡ Ok said
 options_end place language said all i done =
     at_drop_all (λ (ls : List Text). with_options place language ls said) all i done
+
+-- ---- folders
+
+folders_step : (had all : List Text) (i : ℕ) (text : Text) → i < length all → get_or all i text ≡ text
+    → with_folders had (drop i all)
+    ≡ option_map_or (λ name. with_folders (had ++ (name ∷ [])) (drop (i + 1) all)) (folder_name text) (Err PartlyQuoted)
+folders_step had all i text inside here =
+    at_drop_more (λ (ls : List Text). with_folders had ls) all i text inside
+    ∙ ap (λ (t : Text). with_folders had (t ∷ drop (i + 1) all)) here
+
+pub folders_more : (had all : List Text) (i : ℕ) (text name : Text) (next : List Text) → i < length all
+    → get_or all i text ≡ text → Some name ≡ folder_name text → next ≡ had ++ (name ∷ [])
+    → with_folders had (drop i all) ≡ with_folders next (drop (i + 1) all)
+folders_more had all i text name next inside here named put =
+    folders_step had all i text inside here
+    ∙ (ap (λ (o : Option Text).
+    option_map_or (λ n. with_folders (had ++ (n ∷ [])) (drop (i + 1) all)) o (Err PartlyQuoted)) (sym named)
+    ∙ ap (λ (h : List Text). with_folders h (drop (i + 1) all)) (sym put))
+
+pub folders_wrong : (had all : List Text) (i : ℕ) (text : Text) → i < length all → get_or all i text ≡ text
+    → None ≡ folder_name text → with_folders had (drop i all) ≡ Err PartlyQuoted
+folders_wrong had all i text inside here named =
+    folders_step had all i text inside here
+    ∙ ap (λ (o : Option Text).
+    option_map_or (λ n. with_folders (had ++ (n ∷ [])) (drop (i + 1) all)) o (Err PartlyQuoted)) (sym named)
 
 -- ---- tokens
 

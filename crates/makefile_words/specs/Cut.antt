@@ -3,7 +3,7 @@
 use Rattle.std.specs.Prelude.{ℕ, zero, suc, ◌+◌, ◌==◌, ◌&&◌, ◌||◌, not, Bool, true, false, nat_le, nat_lt, List}
 use Rattle.std.specs.Prelude.{[], ◌∷◌, length, drop, Option, Some, None, Result, Ok, Err, if◌then◌else◌, is_some, slice_index}
 use Rattle.std.specs.Option.{option_and_then, option_map_or, option_or}
-use Rattle.std.specs.List.{position_or_len, slice_split}
+use Rattle.std.specs.List.{position_or_len}
 use Rattle.std.specs.Path.{rsplit_once}
 use Rattle.clap.specs.Lexer.{strip_byte}
 use Rattle.clap.specs.Words.{Text}
@@ -13,6 +13,7 @@ use Rattle.makefile_words.specs.declared.settings.Setting.{Setting}
 use Rattle.makefile_words.specs.declared.tokens.Language.{Language}
 use Rattle.makefile_words.specs.declared.tokens.Language.TheVariants.{Tlink, Link}
 use Rattle.makefile_words.specs.Link.{link_fault, link_option}
+use Rattle.makefile_words.specs.Parts.{parts}
 use Rattle.makefile_words.specs.Tlink.{closed_option, tlink_fault, tlink_option}
 
 -- what an option asks for, none where there is no such option
@@ -49,7 +50,7 @@ lead_to_folders language (option ∷ more) =
 -- whether a word begins as options, of which one takes folders
 abbrev pub has_folders : Language → Text → Bool
 has_folders language word =
-    option_map_or (λ options. lead_to_folders language (slice_split (λ byte. byte == 47) options))
+    option_map_or (λ options. lead_to_folders language (parts 47 options))
     (option_or (strip_byte 47 word) (strip_byte 45 word))
     false
 
@@ -62,8 +63,8 @@ are_options language (option ∷ more) = is_option language option && are_option
 -- `L/tc/lib`, an option with folders is one as a whole
 abbrev pub options_in : Language → Text → List Text
 options_in language text =
-    if takes_folders language text && not (are_options language (slice_split (λ byte. byte == 47) text)) then text ∷ []
-    else slice_split (λ byte. byte == 47) text
+    if takes_folders language text && not (are_options language (parts 47 text)) then text ∷ []
+    else parts 47 text
 
 -- whether a text is options, with `/` between them
 abbrev pub is_all_options : Language → Text → Bool
@@ -118,8 +119,8 @@ is_of_dos text = has 92 text || has 58 text
 -- whether a text is an option with folders of Unix, and options with `/` between them as well, as `La/c`
 abbrev pub is_both : Language → Text → Bool
 is_both language text =
-    takes_folders language text && (has_slash text && not (is_of_dos text))
-    && are_options language (slice_split (λ byte. byte == 47) text)
+    takes_folders language text && not (is_of_dos text)
+    && (nat_lt 1 (length (parts 47 text)) && are_options language (parts 47 text))
 
 -- a word that begins as an option, with what stands behind that: options, a path where it may be one, or a fault
 abbrev pub begun : Language → (word options : Text) → (is_path : Bool) → Result SaidCut FaultKind

@@ -1,7 +1,9 @@
 pub mod Cut
+pub mod Definitions
 pub mod inside
 pub mod Jobs
 pub mod Lines
 pub mod Link
+pub mod Parts
 pub mod Tlink
 pub mod Tokens

@@ -2,17 +2,19 @@
 use Rattle.std.specs.Prelude.{ℕ, ◌+◌, ◌-◌, ◌==◌, ◌&&◌, ◌||◌, Bool, true, false, nat_le, nat_lt, List, [], ◌∷◌, ◌++◌}
 use Rattle.std.specs.Prelude.{length, take, codes, Option, Some, None, Result, Ok, Err, if◌then◌else◌, is_some, slice_index, unwrap_or}
 use Rattle.std.specs.Option.{option_map_or, option_or}
-use Rattle.std.specs.List.{before_first, after_first, position_or_len, slice_split}
+use Rattle.std.specs.List.{before_first, after_first, position_or_len}
+use Rattle.std.specs.Path.{rsplit_once}
 use Rattle.clap.specs.Lexer.{strip_byte}
 use Rattle.clap.specs.Words.{Text}
 use Rattle.doslink_words.specs.Directives.{and_then}
 use Rattle.doslink_words.specs.Keywords.{is_keyword}
 use Rattle.doslink_words.specs.Said.{SaidInput, File, Library}
 use Rattle.doslink_words.specs.declared.job.Form.TheVariants.{Exe}
-use Rattle.makefile_words.specs.Cut.{SaidCut, cut, option_fault, option_named, options_in}
+use Rattle.makefile_words.specs.Cut.{SaidCut, cut, has, option_fault, option_named, options_in}
 use Rattle.makefile_words.specs.Link.{is_colon}
+use Rattle.makefile_words.specs.Parts.{parts}
 use Rattle.makefile_words.specs.Tokens.{PlacedPiece, Piece, Word, Quoted, Unclosed, Blank, Plus, Comma, Semicolon, LineEnd}
-use Rattle.makefile_words.specs.Tokens.{text_of, tokens, tokens_ending}
+use Rattle.makefile_words.specs.Tokens.{is_quote, text_of, tokens, tokens_ending}
 use Rattle.makefile_words.specs.declared.faults.FaultKind.{FaultKind}
 use Rattle.makefile_words.specs.declared.faults.FaultKind.TheVariants as fault
 use Rattle.makefile_words.specs.declared.line.Field.{Field}
@@ -34,6 +36,7 @@ pub record SaidLine : Type 0 where
   pub inputs : List SaidInput
   pub out : Option Text
   pub map : Option Text
+  pub definitions : Option Text
   pub folders : List Text
   pub object_folders : List Text
   pub left_out : List Text
@@ -71,6 +74,7 @@ nothing_said language = record {
   inputs = [];
   out = None;
   map = None;
+  definitions = None;
   folders = [];
   object_folders = [];
   left_out = [];
@@ -113,9 +117,26 @@ changed (setting.Refused kind) s = s
 abbrev pub folders_text : Text → Text
 folders_text option = unwrap_or (option_or (strip_byte 76 option) (strip_byte 106 option)) option
 
--- the folders that are such a value: `;` parts them
+-- the folders that are such a value: `;` parts them, but for one between quotes
 abbrev pub folders_in : Text → List Text
-folders_in option = slice_split (λ byte. byte == 59) (folders_text option)
+folders_in option = parts 59 (folders_text option)
+
+-- the name of a folder: all of it where it has no quote, and else what stands between its two quotes, where nothing
+-- stands in front of these or behind them
+abbrev pub quoted_name : (front quoted : Text) → Option Text
+quoted_name front quoted =
+    if has 34 quoted && (length front == 0 && length (after_first is_quote quoted) == 0)
+    then Some (before_first is_quote quoted) else None
+
+abbrev pub folder_name : Text → Option Text
+folder_name folder =
+    if has 34 folder then quoted_name (before_first is_quote folder) (after_first is_quote folder) else Some folder
+
+-- folders, and behind them those of these names
+abbrev pub with_folders : List Text → List Text → Result (List Text) FaultKind
+with_folders had [] = Ok had
+with_folders had (folder ∷ more) =
+    option_map_or (λ name. with_folders (had ++ (name ∷ [])) more) (folder_name folder) (Err fault.PartlyQuoted)
 
 -- the value of `NODEFAULTLIBRARYSEARCH:LIB`
 abbrev pub library_text : Text → Text
@@ -125,9 +146,10 @@ library_text option =
 -- what an option says, where it asks for this
 abbrev pub setting_meaning : (place : ℕ) → Setting → (option : Text) → SaidLine → Result SaidLine FaultKind
 setting_meaning place setting.Folders option said =
-    Ok (record said { folders = said.folders ++ folders_in option })
+    and_then (with_folders said.folders (folders_in option)) (λ folders. Ok (record said { folders = folders }))
 setting_meaning place setting.ObjectFolders option said =
-    Ok (record said { object_folders = said.object_folders ++ folders_in option })
+    and_then (with_folders said.object_folders (folders_in option))
+    (λ folders. Ok (record said { object_folders = folders }))
 setting_meaning place setting.LeavesOut option said =
     Ok (record said { left_out = said.left_out ++ (library_text option ∷ []) })
 setting_meaning place (setting.Warned idle) option said =
@@ -158,11 +180,21 @@ options_meaning place language (Some text) said = with_options place language (o
 abbrev pub is_dot : ℕ → Bool
 is_dot byte = byte == 46
 
--- what of a name may be that of a device: no extension, and no colon behind it
-abbrev pub device_part : Text → Text
-device_part name = before_first is_colon (before_first is_dot name)
+-- what stands behind the last of a byte, or all where there is none
+abbrev pub behind_last : (byte : ℕ) → Text → Text
+behind_last byte name = option_map_or (λ parts. parts.1) (rsplit_once byte name) name
 
--- whether a name is this device, with any extension or a colon behind it
+-- a name without the colon at its end
+abbrev pub without_colon : Text → Text
+without_colon name =
+    if nat_le 1 (length name) && slice_index name (length name - 1) == 58 then take (length name - 1) name else name
+
+-- what of a name may be that of a device: what stands behind folders and a drive, without an extension, and without a
+-- colon behind it
+abbrev pub device_part : Text → Text
+device_part name = before_first is_dot (behind_last 58 (behind_last 92 (behind_last 47 (without_colon name))))
+
+-- whether a name is this device, in any folder, with any extension or a colon behind it
 abbrev pub is_device : Text → Text → Bool
 is_device name device = is_keyword (device_part name) device
 
@@ -181,7 +213,7 @@ is_port text =
 abbrev pub is_console : Text → Bool
 is_console name = is_device name (codes "con")
 
--- the other devices, which are no files to write, with any extension or a colon behind it
+-- the other devices, which are no files to write
 abbrev pub is_refused : Text → Bool
 is_refused name = is_device name (codes "prn") || is_device name (codes "aux") || is_port (device_part name)
 
@@ -215,6 +247,13 @@ map_meaning name said =
     if is_some said.map then Err fault.SecondName
     else (if is_refused name then Err fault.Device else Ok (record said { map = Some name }))
 
+-- the name of the file of definitions, of which there is one; NUL is none
+abbrev pub definitions_meaning : Text → SaidLine → Result SaidLine FaultKind
+definitions_meaning name said =
+    if is_some said.definitions then Err fault.SecondName
+    else (if is_console name || is_refused name then Err fault.Device
+    else Ok (record said { definitions = Some name }))
+
 -- a library, or a folder of libraries
 abbrev pub library_meaning : Text → SaidLine → Result SaidLine FaultKind
 library_meaning name said =
@@ -228,7 +267,7 @@ field_meaning Objects name said = object_meaning name said
 field_meaning Program name said = program_meaning name said
 field_meaning MapFile name said = map_meaning name said
 field_meaning Libraries name said = library_meaning name said
-field_meaning Definitions name said = if is_null name then Ok said else Err fault.Definitions
+field_meaning Definitions name said = definitions_meaning name said
 field_meaning Ended name said = Err fault.BehindEnd
 
 abbrev pub put_meaning : Text → SaidLine → Result SaidLine FaultKind

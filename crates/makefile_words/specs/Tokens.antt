@@ -1,7 +1,7 @@
 -- How a line is cut into tokens, each with its place. The manuals: fields are parted by commas, names in a field by
 -- blanks or `+`, and `;` ends the line. In a text of many lines (a response file) a line's end is a token too.
-use Rattle.std.specs.Prelude.{ℕ, zero, suc, ◌+◌, ◌-◌, ◌==◌, ◌&&◌, ◌||◌, not, Bool, false, nat_le, nat_lt, List, [], ◌∷◌}
-use Rattle.std.specs.Prelude.{length, take, drop, map, Option, Some, None, if◌then◌else◌, slice_index}
+use Rattle.std.specs.Prelude.{ℕ, zero, suc, ◌+◌, ◌-◌, ◌==◌, ◌&&◌, ◌||◌, not, Bool, true, false, nat_le, nat_lt, List}
+use Rattle.std.specs.Prelude.{[], ◌∷◌, length, take, drop, map, Option, Some, None, if◌then◌else◌, slice_index}
 use Rattle.std.specs.Option.{option_map_or}
 use Rattle.std.specs.List.{before_first, after_first, position_or_len}
 use Rattle.std.specs.Char.{is_ascii_whitespace}
@@ -12,7 +12,8 @@ use Rattle.makefile_words.specs.declared.tokens.Placed.{Placed}
 use Rattle.makefile_words.specs.declared.tokens.Token.{Token}
 use Rattle.makefile_words.specs.declared.tokens.Token.TheVariants as code
 
--- a token: a word, what stands between two quotes, a quote that isn't closed, or a mark
+-- a token: a word, in which folders may have quotes, what stands between two quotes, a quote that isn't closed, or a
+-- mark
 pub data Piece : Type 0 where
   Word : Text → Piece
   Quoted : Text → Piece
@@ -53,13 +54,54 @@ quoted text =
     if nat_lt (position_or_len is_quote text) (length text)
     then (Quoted (before_first is_quote text), after_first is_quote text) else (Unclosed, [])
 
--- how long a word is: a byte, and what follows it up to the next byte that ends a word
-abbrev pub len_with : (folders : Bool) → Text → ℕ
-len_with folders text = 1 + position_or_len (ends_word folders) (drop 1 text)
+-- the place of the first byte from here on that stands behind a word, or the end
+abbrev pub end_from : (folders : Bool) → Text → (start : ℕ) → ℕ
+end_from folders text start = start + position_or_len (ends_word folders) (drop start text)
 
--- how long the word is that a text begins with: `;` is in it where the part in front of that has folders
-abbrev pub word_len : Language → Text → ℕ
-word_len language text = len_with (has_folders language (take (len_with false text) text)) text
+-- whether a text ends with these: `;`; and `L` or `j`, the letters of the options that take folders
+abbrev pub ends_with_semicolon : Text → Bool
+ends_with_semicolon text = nat_le 1 (length text) && slice_index text (length text - 1) == 59
+
+abbrev pub ends_with_letter : Text → Bool
+ends_with_letter text =
+    nat_le 2 (length text) && (slice_index text (length text - 1) == 76 || slice_index text (length text - 1) == 106)
+
+-- whether a folder begins behind this part of a word: behind `;`, and behind such a letter that an option is, where `/`
+-- begins one anywhere and `-` at the word's start
+abbrev pub opens_folder : (part : Text) → Bool
+opens_folder part =
+    ends_with_semicolon part
+    || (ends_with_letter part
+    && (slice_index part (length part - 2) == 47 || (length part == 2 && slice_index part 0 == 45)))
+
+-- how many bytes two quotes have with what stands between them, where a text begins with such
+abbrev pub quotation_len : Text → Option ℕ
+quotation_len [] = None
+quotation_len (byte ∷ text) =
+    if is_quote byte && nat_lt (position_or_len is_quote text) (length text)
+    then Some (position_or_len is_quote text + 2) else None
+
+-- how many bytes a folder has with its two quotes that begins here
+abbrev pub quoted_at : Text → (place : ℕ) → Option ℕ
+quoted_at text place = if opens_folder (take place text) then quotation_len (drop place text) else None
+
+-- where folders end that end here but for a folder between quotes: what stands between these is in them, any mark too
+abbrev pub end_behind : (bound : ℕ) → Text → (end : ℕ) → ℕ
+end_behind zero text end = end
+end_behind (suc bound) text end =
+    option_map_or (λ len. end_behind bound text (end_from true text (end + len))) (quoted_at text end) end
+
+-- where a word ends that has folders, of which this front is known: `;` is in it. Two quotes are two bytes at least, so
+-- that the bound is none
+unfoldable pub folders_end : Text → (front : ℕ) → ℕ
+folders_end text front = end_behind (length text) text (end_from true text front)
+
+-- how long the word is that a text begins with: a byte, and what follows it up to the next byte that ends a word, or up
+-- to the end of the folders of an option
+unfoldable pub word_len : Language → Text → ℕ
+word_len language text =
+    if has_folders language (take (end_from false text 1) text) then folders_end text (end_from false text 1)
+    else end_from false text 1
 
 -- the word that a text begins with, and what follows it
 abbrev pub word : Language → Text → Piece × Text

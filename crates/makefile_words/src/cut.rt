@@ -1,15 +1,16 @@
 //! The names and the options of a word.
 ghost use Rattle.std.specs.Prelude.{◌≡◌, ◌==◌, ◌<◌, ◌≤◌, IfOk, IfSome, length, slice_index};
 ghost use Rattle.std.specs.Str.{IsUtf8};
-ghost use Rattle.std.specs.List.{slice_split};
 ghost use Rattle.std.specs.Option.{option_map};
 ghost use Rattle.clap.specs.Lexer.{strip_byte};
 ghost use Rattle.makefile_words.specs.Cut as spec;
+ghost use Rattle.makefile_words.specs.Parts.{parts};
 ghost use Rattle.makefile_words.specs.inside.Follows.{Gives, HasBehind, cut_of};
 ghost use Rattle.doslink_words.specs.Tokens.{texts};
 
 use crate::faults::{FaultKind, WordFault};
 use crate::link::{link_fault, link_option};
+use crate::parts::parts_of;
 use crate::settings::Setting;
 use crate::tlink::{closed_option, tlink_fault, tlink_option};
 use crate::tokens::Language;
@@ -61,11 +62,11 @@ fn may_touch(language: Language, option: &str) -> bool
     }
 }
 
-// What `/` parts.
+// What `/` parts, but between the quotes of a folder.
 fn pieces_of<'a>(alloc: Global, text: &'a str) -> Result<Vec<&'a str>, AllocError>
-    ensures { IfOk result (λ pieces. texts pieces.items ≡ slice_split (λ byte. byte == 47) text.now) }
+    ensures { IfOk result (λ pieces. texts pieces.items ≡ parts 47 text.now) }
 {
-    text.split('/').collect(alloc)
+    parts_of(alloc, b'/', text)
 }
 
 // Whether an option takes folders, which `;` parts.
@@ -241,11 +242,11 @@ fn is_of_dos(text: &str) -> bool
 fn is_both(alloc: Global, language: Language, text: &str) -> Result<bool, AllocError>
     ensures { IfOk result (λ both. both ≡ spec.is_both language text.now) }
 {
-    if !takes_folders(language, text.as_bytes()) || !has_slash(text) || is_of_dos(text) {
+    if !takes_folders(language, text.as_bytes()) || is_of_dos(text) {
         return Ok(false);
     }
     let pieces = pieces_of(alloc, text)?;
-    Ok(are_options(language, pieces.as_slice()))
+    Ok(pieces.len() > 1 && are_options(language, pieces.as_slice()))
 }
 
 // What a word is that begins as an option, behind whose first byte this stands.

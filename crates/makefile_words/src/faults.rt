@@ -25,6 +25,14 @@ pub enum LineFault<'a> {
     },
 }
 
+impl<'a, T: Drop> From<AllocFailed<T>> for LineFault<'a> {
+    ghost from_gives = { λ _ e. e ≡ line_fault.Memory };
+
+    fn from(_error: AllocFailed<T>) -> LineFault<'a> {
+        LineFault::Memory
+    }
+}
+
 impl<'a> From<AllocError> for LineFault<'a> {
     ghost from_gives = { λ _ e. e ≡ line_fault.Memory };
 
@@ -80,15 +88,24 @@ pub enum FaultKind {
     /// TLINK's `/L` without folders.
     #[error("folders are expected right behind the letter")]
     NoFolders,
+    /// A folder of TLINK's `/L` or `/j` with a quote that isn't in front of it or at its end.
+    #[error("a folder is expected between two quotes, or without")]
+    PartlyQuoted,
     /// A file that has still to be read in the place of the word.
     #[error("a response file stands in the place of a name")]
     Response,
     /// A device that is no file.
     #[error("a file is expected, and no device")]
     Device,
-    /// A file of definitions, whose statements change the program.
-    #[error("definitions aren't followed: a field that is empty or NUL is expected")]
+    /// A statement of a file of definitions that would change the program.
+    #[error("NAME, DESCRIPTION or STACKSIZE is expected: no other definition is followed")]
     Definitions,
+    /// A statement DESCRIPTION of a file of definitions without its text.
+    #[error("a text between quotes is expected, and nothing behind it")]
+    NoDescription,
+    /// A statement STACKSIZE of a file of definitions without its number.
+    #[error("a number is expected, and nothing behind it")]
+    NoStackSize,
     /// Overlays are asked for.
     #[error("overlays aren't made")]
     Overlays,

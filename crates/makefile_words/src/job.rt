@@ -1,12 +1,13 @@
 //! The job that a line asks for.
 ghost use Rattle.std.specs.Prelude.{◌≡◌};
+ghost use Rattle.std.specs.List.{list_any};
 ghost use Rattle.std.specs.Option.{option_map};
 ghost use Rattle.doslink_words.specs.Said.{map_of, order_of};
 ghost use Rattle.makefile_words.specs.Jobs as spec;
 ghost use Rattle.makefile_words.specs.inside.Lines.{line_of};
 
 use crate::line::{IdleAt, Line};
-use crate::names::{is_console, is_null};
+use crate::names::{is, is_console, is_null};
 use crate::settings::{Ordering, Settings};
 use crate::tokens::Language;
 use doslink_words::{Form, Job, MapFile, MapForm, Order, Stack};
@@ -17,6 +18,8 @@ use std::alloc::Global;
 pub struct MakefileJob<'a> {
     /// What is linked, and how.
     pub job: Job<'a>,
+    /// The name of a file of definitions, as it is written, where one is named.
+    pub definitions: Option<&'a str>,
     /// What the options say: among it what the map tells.
     pub settings: Settings,
     /// The options that have no effect, or not all that they would have, in their order.
@@ -41,6 +44,16 @@ fn map_asked<'a>(settings: Settings, name: Option<&'a str>) -> Option<MapFile<'a
     }
 }
 
+// The file of definitions, where one is named.
+fn definitions_asked(name: Option<&str>) -> Option<&str>
+    ensures { option_map (λ s. s.now) result ≡ spec.definitions_asked (option_map (λ s. s.now) name.entry) }
+{
+    match name {
+        Some(name) if is_null(name) => None,
+        _ => name,
+    }
+}
+
 // The order of segments.
 fn order_asked<'a>(ordering: Ordering) -> Order<'a>
     ensures { order_of result ≡ spec.order_asked ordering }
@@ -51,15 +64,17 @@ fn order_asked<'a>(ordering: Ordering) -> Order<'a>
     }
 }
 
-// The form of the map, with line numbers or without.
-fn map_form_of(language: Language, line_numbers: bool) -> MapForm
-    ensures { result ≡ spec.map_form_of language line_numbers }
+// The form of the map, with line numbers or without; that of TLINK may have the detailed map of segments.
+fn map_form_of(language: Language, settings: Settings) -> MapForm
+    ensures { result ≡ spec.map_form_of language settings }
 {
-    match (language, line_numbers) {
-        (Language::Tlink, false) => MapForm::Tlink,
-        (Language::Tlink, true) => MapForm::NumberedTlink,
-        (Language::Link, false) => MapForm::Link,
-        (Language::Link, true) => MapForm::NumberedLink,
+    let line_numbers = settings.line_numbers;
+    match language {
+        Language::Tlink => MapForm::Tlink {
+            line_numbers,
+            details: settings.detailed,
+        },
+        Language::Link => MapForm::Link { line_numbers },
     }
 }
 
@@ -73,12 +88,58 @@ fn nulls_asked(language: Language, form: Form, ordering: Ordering) -> bool
     }
 }
 
+// Whether a byte stands behind a folder or a drive.
+fn ends_folder(byte: u8) -> bool
+    ensures { result ≡ spec.ends_folder byte }
+{
+    byte == b'\\' || byte == b'/' || byte == b':'
+}
+
+// Whether a folder or a drive stands in a text.
+fn has_folder(text: &str) -> bool
+    ensures { result ≡ list_any spec.ends_folder text.now }
+{
+    text.as_bytes().iter().any(|byte| ends_folder(*byte))
+}
+
+// The extension of a name: what stands behind its last dot, where no folder or drive does.
+fn name_extension(name: &str) -> Option<&str>
+    ensures { option_map (λ s. s.now) result ≡ spec.name_extension name.now }
+{
+    match name.rsplit_once('.') {
+        Some((_, rest)) if !has_folder(rest) => Some(rest),
+        _ => None,
+    }
+}
+
+// Whether a name has an extension, and another one than .COM.
+fn has_other_extension(name: &str) -> bool
+    ensures { result ≡ spec.has_other_extension name.now }
+{
+    match name_extension(name) {
+        Some(extension) => !is(extension, "com"),
+        None => false,
+    }
+}
+
+// Whether a file that is asked for as a .COM file begins at the program's start, which may be at 0 too.
+fn is_from_start(language: Language, out: Option<&str>) -> bool
+    ensures { result ≡ spec.is_from_start language (option_map (λ s. s.now) out.entry) }
+{
+    match (language, out) {
+        (Language::Tlink, Some(name)) => has_other_extension(name),
+        _ => false,
+    }
+}
+
 // The form of the program's file: an EXE file may have a limit of the memory behind its image.
-fn form_asked(settings: Settings) -> Form
-    ensures { result ≡ spec.form_asked settings.form settings.most_extra }
+fn form_asked(language: Language, settings: Settings, out: Option<&str>) -> Form
+    ensures { result ≡ spec.form_asked language settings.form settings.most_extra
+        (option_map (λ s. s.now) out.entry) }
 {
     match (settings.form, settings.most_extra) {
         (Form::Exe, Some(paragraphs)) => Form::LimitedExe { paragraphs },
+        (Form::Com, _) if is_from_start(language, out) => Form::FromStart,
         (form, _) => form,
     }
 }
@@ -102,14 +163,14 @@ pub(crate) fn job_of<'a>(alloc: Global, language: Language, line: Line<'a>) -> M
         inputs: line.inputs,
         out: line.out,
         map: map_asked(settings, line.map),
-        map_form: map_form_of(language, settings.line_numbers),
+        map_form: map_form_of(language, settings),
         folders: line.folders,
         object_folders: line.object_folders,
         ignore_case: !settings.case_counts,
         order: order_asked(settings.order),
         null_bytes: nulls_asked(language, settings.form, settings.order),
         stack: stack_asked(settings.stack),
-        form: Some(form_asked(settings)),
+        form: Some(form_asked(language, settings, line.out)),
         default_libraries: !settings.no_defaults,
         left_out: line.left_out,
         keep_debug: false,
@@ -122,6 +183,7 @@ pub(crate) fn job_of<'a>(alloc: Global, language: Language, line: Line<'a>) -> M
     };
     MakefileJob {
         job,
+        definitions: definitions_asked(line.definitions),
         settings,
         warnings: line.warnings,
     }

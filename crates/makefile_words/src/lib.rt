@@ -2,6 +2,7 @@
 #![tactic(auto)]
 
 mod cut;
+mod definitions;
 mod faults;
 mod job;
 mod line;
@@ -9,10 +10,12 @@ mod lines;
 mod link;
 mod names;
 mod options;
+mod parts;
 mod settings;
 mod tlink;
 mod tokens;
 
+pub use definitions::parse_definitions;
 pub use faults::{FaultKind, LineFault};
 pub use job::MakefileJob;
 pub use line::IdleAt;

@@ -34,10 +34,11 @@ pub(crate) enum Part {
     Behind,
 }
 
-/// An option that has no effect, or not all that it would have.
+/// An option that has no effect, or not all that it would have; or a definition.
 #[derive(Clone, Copy, Debug, PartialEq, Eq)]
 pub struct IdleAt {
-    /// How many bytes of the front and of the text behind it stand before its word.
+    /// How many bytes stand before its word: of the front of a line and of the text behind it, or of a file of
+    /// definitions.
     pub place: usize,
     /// What it is.
     pub idle: Idle,
@@ -52,6 +53,8 @@ pub(crate) struct Line<'a> {
     pub out: Option<&'a str>,
     /// The map's name.
     pub map: Option<&'a str>,
+    /// The name of the file of definitions.
+    pub definitions: Option<&'a str>,
     /// The folders in which libraries are looked up.
     pub folders: Vec<&'a str>,
     /// The folders in which objects are looked up that aren't where their names say.
@@ -157,6 +160,7 @@ impl<'a> Line<'a> {
             inputs: Vec::new(alloc),
             out: None,
             map: None,
+            definitions: None,
             folders: Vec::new(alloc),
             object_folders: Vec::new(alloc),
             left_out: Vec::new(alloc),

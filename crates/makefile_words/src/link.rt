@@ -72,8 +72,8 @@ fn numeral(radix: u32, digits: &[u8]) -> Option<u32>
     Some(value)
 }
 
-// The number of an option: hexadecimal behind `0x`, octal behind `0`, else decimal.
-fn number(text: &[u8]) -> Option<u32>
+/// The number of an option: hexadecimal behind `0x`, octal behind `0`, else decimal.
+pub(crate) fn number(text: &[u8]) -> Option<u32>
     ensures number { result ≡ spec.number text.now }
     ensures small { IfSome result (λ n. n ≤ 1_048_576) }
 {

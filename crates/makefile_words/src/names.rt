@@ -1,5 +1,5 @@
 //! What the names of a line say in their fields.
-ghost use Rattle.std.specs.Prelude.{◌≡◌};
+ghost use Rattle.std.specs.Prelude.{◌≡◌, ◌<◌};
 ghost use Rattle.std.specs.Option.{option_map};
 ghost use Rattle.std.specs.List.{before_first};
 ghost use Rattle.doslink_words.specs.Keywords.{is_keyword};
@@ -29,18 +29,37 @@ fn stem(name: &str) -> &str
     }
 }
 
-// What of a name may be that of a device: without an extension, and without a colon behind it.
-fn device_part(name: &str) -> &str
-    ensures { result.now ≡ spec.device_part name.now }
+// What stands behind the last of an ASCII character in a name; the name where it has none.
+fn behind_last(name: &str, parting: char) -> &str
+    requires { parting < 128 }
+    ensures { result.now ≡ spec.behind_last parting name.now }
 {
-    let stem = stem(name);
-    match stem.split_once(':') {
-        Some((device, _)) => device,
-        None => stem,
+    match name.rsplit_once(parting) {
+        Some((_, behind)) => behind,
+        None => name,
     }
 }
 
-/// Whether a name is `NUL`, with any extension, or a colon.
+// A name without the colon at its end.
+fn without_colon(name: &str) -> &str
+    ensures { result.now ≡ spec.without_colon name.now }
+{
+    match name.as_bytes() {
+        [front @ .., b':'] => &name[..front.len()],
+        _ => name,
+    }
+}
+
+// What of a name may be that of a device: without folders and a drive, without an extension, and without a colon behind
+// it.
+fn device_part(name: &str) -> &str
+    ensures { result.now ≡ spec.device_part name.now }
+{
+    let name = without_colon(name);
+    stem(behind_last(behind_last(behind_last(name, '/'), '\\'), ':'))
+}
+
+/// Whether a name is `NUL`, in any folder, with any extension or a colon.
 pub(crate) fn is_null(name: &str) -> bool
     ensures { result ≡ spec.is_null name.now }
 {
@@ -59,7 +78,7 @@ fn is_port(name: &str) -> bool
     }
 }
 
-/// Whether a name is `CON`, with any extension, or a colon.
+/// Whether a name is `CON`, in any folder, with any extension or a colon.
 pub(crate) fn is_console(name: &str) -> bool
     ensures { result ≡ spec.is_console name.now }
 {
@@ -133,6 +152,20 @@ fn put_map<'a>(line: &mut Line<'a>, name: &'a str) -> Result<(), WordFault>
     Ok(())
 }
 
+// Puts the file of definitions.
+fn put_definitions<'a>(line: &mut Line<'a>, name: &'a str) -> Result<(), WordFault>
+    ensures { Follows result (spec.definitions_meaning name.now (line_of line.old)) (line_of line.new) }
+{
+    if line.definitions.is_some() {
+        return Err(WordFault::Wrong(FaultKind::SecondName));
+    }
+    if is_console(name) || is_refused(name) {
+        return Err(WordFault::Wrong(FaultKind::Device));
+    }
+    line.definitions = Some(name);
+    Ok(())
+}
+
 // Puts a library, or a folder of libraries.
 fn put_library<'a>(line: &mut Line<'a>, name: &'a str) -> Result<(), WordFault>
     ensures { Follows result (spec.library_meaning name.now (line_of line.old)) (line_of line.new) }
@@ -158,8 +191,7 @@ pub(crate) fn put_field<'a>(line: &mut Line<'a>, name: &'a str) -> Result<(), Wo
         Field::Program => put_program(line, name),
         Field::MapFile => put_map(line, name),
         Field::Libraries => put_library(line, name),
-        Field::Definitions if is_null(name) => Ok(()),
-        Field::Definitions => Err(WordFault::Wrong(FaultKind::Definitions)),
+        Field::Definitions => put_definitions(line, name),
         Field::Ended => Err(WordFault::Wrong(FaultKind::BehindEnd)),
     }
 }

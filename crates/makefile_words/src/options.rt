@@ -1,6 +1,5 @@
 //! What the options of a word say.
-ghost use Rattle.std.specs.Prelude.{◌≡◌, ◌==◌, ◌++◌, IfOk};
-ghost use Rattle.std.specs.List.{slice_split};
+ghost use Rattle.std.specs.Prelude.{◌≡◌};
 ghost use Rattle.std.specs.Option.{option_map};
 ghost use Rattle.clap.specs.Lexer.{strip_byte};
 ghost use Rattle.doslink_words.specs.Tokens.{texts};
@@ -9,11 +8,12 @@ ghost use Rattle.makefile_words.specs.inside.Follows.{Follows};
 ghost use Rattle.makefile_words.specs.inside.Lines.{line_of};
 
 use crate::cut::{option_fault, option_named, options_in};
-use crate::faults::WordFault;
+use crate::faults::{FaultKind, WordFault};
 use crate::line::{IdleAt, Line};
+use crate::parts::parts_of;
 use crate::settings::Setting;
 use crate::tokens::Language;
-use std::alloc::{AllocError, AllocFailed, Global};
+use std::alloc::Global;
 
 // What follows a first `L`.
 fn after_libraries(option: &str) -> Option<&str>
@@ -49,19 +49,28 @@ fn library_text(option: &str) -> &str
     }
 }
 
-// What `;` parts.
-fn folders_in<'a>(alloc: Global, text: &'a str) -> Result<Vec<&'a str>, AllocError>
-    ensures { IfOk result (λ folders. texts folders.items ≡ slice_split (λ byte. byte == 59) text.now) }
+// The name of a folder, which stands between two quotes or has none.
+fn folder_name(folder: &str) -> Option<&str>
+    ensures { option_map (λ name. name.now) result ≡ spec.folder_name folder.now }
 {
-    text.split(';').collect(alloc)
+    match folder.split_once('"') {
+        None => Some(folder),
+        Some((front, quoted)) => match quoted.split_once('"') {
+            Some((name, behind)) if front.is_empty() && behind.is_empty() => Some(name),
+            _ => None,
+        },
+    }
 }
 
-// Appends texts.
-fn put_texts<'a>(list: &mut Vec<&'a str>, more: &[&'a str]) -> Result<(), AllocFailed<&'a str>>
-    ensures { IfOk result (λ _. texts list.new.items ≡ texts list.old.items ++ texts more.now) }
+// Appends the names of folders.
+fn put_folders<'a>(list: &mut Vec<&'a str>, folders: &[&'a str]) -> Result<(), WordFault>
+    ensures { Follows result (spec.with_folders (texts list.old.items) (texts folders.now)) (texts list.new.items) }
 {
-    'more: for text in more {
-        list.push(*text)?;
+    'folders: for folder in folders {
+        match folder_name(folder) {
+            Some(name) => list.push(name)?,
+            None => return Err(WordFault::Wrong(FaultKind::PartlyQuoted)),
+        }
     }
     Ok(())
 }
@@ -78,12 +87,12 @@ fn follow_setting<'a>(
 {
     match setting {
         Setting::Folders => {
-            let folders = folders_in(alloc, folders_text(option))?;
-            put_texts(&mut line.folders, &folders)?;
+            let folders = parts_of(alloc, b';', folders_text(option))?;
+            put_folders(&mut line.folders, &folders)?;
         }
         Setting::ObjectFolders => {
-            let folders = folders_in(alloc, folders_text(option))?;
-            put_texts(&mut line.object_folders, &folders)?;
+            let folders = parts_of(alloc, b';', folders_text(option))?;
+            put_folders(&mut line.object_folders, &folders)?;
         }
         Setting::LeavesOut => line.left_out.push(library_text(option))?,
         Setting::Warned(idle) => line.warnings.push(IdleAt { place, idle })?,

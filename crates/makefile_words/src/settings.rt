@@ -53,6 +53,8 @@ pub enum Idle {
     Packing,
     /// An option that changes nothing here.
     Nothing,
+    /// A statement of a file of definitions: none is followed.
+    Definition,
 }
 
 /// What an option asks for.

@@ -1,5 +1,6 @@
 //! The tokens of a line.
-ghost use Rattle.std.specs.Prelude.{◌≡◌, ◌<◌, ◌≤◌, IfOk, drop, length, slice_index};
+ghost use Rattle.std.specs.Prelude.{◌≡◌, ◌+◌, ◌<◌, ◌≤◌, IfOk, IfSome, drop, length, slice_index};
+ghost use Rattle.std.specs.List.{position_or_len};
 ghost use Rattle.std.specs.Str.{IsUtf8};
 ghost use Rattle.makefile_words.specs.Tokens as spec;
 ghost use Rattle.makefile_words.specs.Tokens.{piece_of, pieces};
@@ -20,7 +21,7 @@ pub enum Language {
 /// A token of a line.
 #[derive(Clone, Copy)]
 pub enum Token<'a> {
-    /// What stands without quotes.
+    /// What stands without quotes, but for those of folders.
     Word(&'a str),
     /// What stands between two quotes.
     Quoted(&'a str),
@@ -64,7 +65,7 @@ impl<'a> Token<'a> {
     }
 }
 
-// Whether a byte stands behind a word, and not in it.
+// Whether a byte stands behind a word, and not in it. A quote does, unless a folder begins with it.
 fn ends_word(folders: bool, byte: u8) -> bool
     ensures { result ≡ spec.ends_word folders byte }
 {
@@ -75,8 +76,8 @@ fn ends_word(folders: bool, byte: u8) -> bool
         || (byte == b';' && !folders)
 }
 
-// Whether a byte is a quote.
-fn is_quote(byte: u8) -> bool
+/// Whether a byte is a quote.
+pub(crate) fn is_quote(byte: u8) -> bool
     ensures { result ≡ spec.is_quote byte }
 {
     byte == b'"'
@@ -113,24 +114,93 @@ fn quoted_token<'a>(text: &'a str) -> (Token<'a>, &'a str)
     }
 }
 
-// How many bytes the word has that a text begins with, where it has folders or none.
-fn len_with(folders: bool, text: &str) -> usize
-    requires { 0 < length text.now }
-    ensures { result ≡ spec.len_with folders text.now }
+// The place of the first byte from here on that stands behind a word, or the end.
+fn end_from(folders: bool, text: &[u8], start: usize) -> usize
+    requires { start ≤ length text.now }
+    ensures end { result ≡ spec.end_from folders text.now start }
+    ensures within { start ≤ result × result ≤ length text.now }
 {
-    let inside = &text.as_bytes()[1..];
-    let end = inside.iter().position(|byte| ends_word(folders, *byte));
-    end.unwrap_or(inside.len()) + 1
+    let rest = &text[start..];
+    let end = rest.iter().position(|byte| ends_word(folders, *byte));
+    start + end.unwrap_or(rest.len())
+}
+
+// Whether a folder begins behind this part of a word: behind `;`, or behind the letter of an option.
+fn opens_folder(part: &[u8]) -> bool
+    ensures { result ≡ spec.opens_folder part.now }
+{
+    match part {
+        [.., b';'] | [.., b'/', b'L' | b'j'] | [b'-', b'L' | b'j'] => true,
+        _ => false,
+    }
+}
+
+// How many bytes stand before the first quote, or in all where there is none.
+fn quote_at(text: &[u8]) -> usize
+    ensures place { result ≡ position_or_len spec.is_quote text.now }
+    ensures within { result ≤ length text.now }
+{
+    let place = text.iter().position(|byte| is_quote(*byte));
+    place.unwrap_or(text.len())
+}
+
+// How many bytes two quotes have with what stands between them, where a text begins with such.
+fn quotation_len(text: &[u8]) -> Option<usize>
+    ensures len { result ≡ spec.quotation_len text.now }
+    ensures within { IfSome result (λ len. 2 ≤ len × len ≤ length text.now) }
+{
+    match text {
+        [first, inside @ ..] if is_quote(*first) => {
+            let len = quote_at(inside);
+            if len < inside.len() {
+                Some(len + 2)
+            } else {
+                None
+            }
+        }
+        _ => None,
+    }
+}
+
+// How many bytes a folder has with its two quotes that begins here.
+fn quoted_at(text: &[u8], place: usize) -> Option<usize>
+    requires { place ≤ length text.now }
+    ensures len { result ≡ spec.quoted_at text.now place }
+    ensures within { IfSome result (λ len. 2 ≤ len × place + len ≤ length text.now) }
+{
+    if opens_folder(&text[..place]) {
+        quotation_len(&text[place..])
+    } else {
+        None
+    }
+}
+
+// Where a word ends that has folders, of which this front is known.
+fn folders_end(text: &[u8], front: usize) -> usize
+    requires { front ≤ length text.now }
+    ensures end { result ≡ spec.folders_end text.now front }
+    ensures further { front ≤ result }
+{
+    let mut end = end_from(true, text, front);
+    'quoted: while let Some(len) = quoted_at(text, end) {
+        end = end_from(true, text, end + len);
+    }
+    end
 }
 
 // How many bytes the word has that a text begins with.
+#[tactic(auto, unfolding(crate::specs::Tokens::word_len))]
 fn word_len(alloc: Global, language: Language, text: &str) -> Result<usize, AllocError>
     requires { 0 < length text.now }
-    ensures { IfOk result (λ end. end ≡ spec.word_len language text.now) }
+    ensures len { IfOk result (λ end. end ≡ spec.word_len language text.now) }
+    ensures some { IfOk result (λ end. 0 < end) }
 {
-    let end = len_with(false, text);
-    let folders = has_folders(alloc, language, &text[..end])?;
-    Ok(len_with(folders, text))
+    let front = end_from(false, text.as_bytes(), 1);
+    if has_folders(alloc, language, &text[..front])? {
+        Ok(folders_end(text.as_bytes(), front))
+    } else {
+        Ok(front)
+    }
 }
 
 // The word that a text begins with, and what follows it.

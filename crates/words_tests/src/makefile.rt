@@ -1,6 +1,8 @@
 //! Tests of the lines of LINK and TLINK.
 
 #[cfg(test)]
+mod definitions;
+#[cfg(test)]
 mod link;
 #[cfg(test)]
 mod link_makefiles;

@@ -16,6 +16,7 @@ line_of line = record {
   inputs = inputs_of line.inputs.items;
   out = option_map (λ name. name.now) line.out;
   map = option_map (λ name. name.now) line.map;
+  definitions = option_map (λ name. name.now) line.definitions;
   folders = texts line.folders.items;
   object_folders = texts line.object_folders.items;
   left_out = texts line.left_out.items;

@@ -63,6 +63,31 @@ op c, nod, symf, v, art, stat, sho, maxe=5
 default_libraries: false
 
 
+op c, ig, cac, nocac, fa, nof
+=>
+ignore_case: true
+
+
+op casei, nocasei
+=>
+ignore_case: false
+
+
+op casei, noi
+=>
+ignore_case: false
+
+
+op ca, nocas
+=>
+ignore_case: true
+
+
+op noca
+=>
+Err(Line { line: 1, text: "noca", kind: UnknownOption })
+
+
 output raw offset=31k format dos name y
 =>
 out: Some("y")

@@ -132,10 +132,10 @@ doslink --map-form omf A =>
 map: None, map_form: Omf
 
 doslink --map-form LINK -m M A =>
-map: Some(At("M")), map_form: Link
+map: Some(At("M")), map_form: Link { line_numbers: false }
 
 doslink A --map-form=TLink =>
-map: None, map_form: Tlink
+map: None, map_form: Tlink { line_numbers: false, details: false }
 
 doslink --map-form wlink A =>
 Err(Wrong("error: invalid value 'wlink' for '--map-form <NAME>': a map's form is omf, link or tlink\n\nFor more information, try '--help'.\n"))

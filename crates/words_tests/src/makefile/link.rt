@@ -6,7 +6,7 @@ use makefile_words::Language;
 fn reads_fields(rt: HostRuntime) {
     let table = r#"/NOI /STACK:4096 main+util,prog,prog,slibce;
 =>
-Ok(MakefileJob { job: Job { inputs: [File("main"), File("util"), Library("slibce")], out: Some("prog"), map: Some(At("prog")), map_form: Link, folders: [], object_folders: [], ignore_case: false, order: Meeting, null_bytes: true, stack: Some(Stack { bytes: 4096, cuts: true }), form: Some(Exe), default_libraries: true, left_out: [], keep_debug: false, packs_far_data: false, verbose: false, quiet: false, start: None, references: [], aliases: [] }, settings: Settings { case_counts: true, no_defaults: false, no_map: false, makes_map: true, publics: false, line_numbers: false, detailed: false, writes_all: false, verbose: false, form: Exe, order: Meeting, stack: Some(4096), most_extra: None }, warnings: [] })
+Ok(MakefileJob { job: Job { inputs: [File("main"), File("util"), Library("slibce")], out: Some("prog"), map: Some(At("prog")), map_form: Link { line_numbers: false }, folders: [], object_folders: [], ignore_case: false, order: Meeting, null_bytes: true, stack: Some(Stack { bytes: 4096, cuts: true }), form: Some(Exe), default_libraries: true, left_out: [], keep_debug: false, packs_far_data: false, verbose: false, quiet: false, start: None, references: [], aliases: [] }, definitions: None, settings: Settings { case_counts: true, no_defaults: false, no_map: false, makes_map: true, publics: false, line_numbers: false, detailed: false, writes_all: false, verbose: false, form: Exe, order: Meeting, stack: Some(4096), most_extra: None }, warnings: [] })
 ---
 main;
 =>
@@ -42,7 +42,7 @@ map: Some(At("console"))
 ---
 main,,con /M /LI;
 =>
-map: Some(At("-")), map_form: NumberedLink
+map: Some(At("-")), map_form: Link { line_numbers: true }
 ---
 main,prog
 =>
@@ -50,15 +50,19 @@ inputs: [File("main")], out: Some("prog"), map: None
 ---
 main util+last , prog.exe , prog.map , c:\lib\ em+slibce ;
 =>
-inputs: [File("main"), File("util"), File("last"), Library("em"), Library("slibce")], out: Some("prog.exe"), map: Some(At("prog.map")), map_form: Link, folders: ["c:\\lib\\"]
+inputs: [File("main"), File("util"), File("last"), Library("em"), Library("slibce")], out: Some("prog.exe"), map: Some(At("prog.map")), map_form: Link { line_numbers: false }, folders: ["c:\\lib\\"]
 ---
 main,,,,nul
 =>
-inputs: [File("main")], out: None, map: Some(Beside)
+aliases: [] }, definitions: None, settings
+---
+main,,,,prog.def;
+=>
+aliases: [] }, definitions: Some("prog.def"), settings
 ---
 /home/x/main.obj ../util/a.obj,out/prog/NOI;
 =>
-inputs: [File("/home/x/main.obj"), File("../util/a.obj")], out: Some("out/prog"), map: None, map_form: Link, folders: [], object_folders: [], ignore_case: false
+inputs: [File("/home/x/main.obj"), File("../util/a.obj")], out: Some("out/prog"), map: None, map_form: Link { line_numbers: false }, folders: [], object_folders: [], ignore_case: false
 ---
 "my main.obj","my prog.exe";
 =>
@@ -145,7 +149,7 @@ order: Dosseg, null_bytes: false
 ---
 /M main;
 =>
-map: Some(Beside), map_form: Link, folders: [], object_folders: [], ignore_case: true, order: Meeting, null_bytes: true, stack: None, form: Some(Exe), default_libraries: true, left_out: [], keep_debug: false, packs_far_data: false, verbose: false, quiet: false, start: None, references: [], aliases: [] }, settings: Settings { case_counts: false, no_defaults: false, no_map: false, makes_map: false, publics: true
+map: Some(Beside), map_form: Link { line_numbers: false }, folders: [], object_folders: [], ignore_case: true, order: Meeting, null_bytes: true, stack: None, form: Some(Exe), default_libraries: true, left_out: [], keep_debug: false, packs_far_data: false, verbose: false, quiet: false, start: None, references: [], aliases: [] }, definitions: None, settings: Settings { case_counts: false, no_defaults: false, no_map: false, makes_map: false, publics: true
 ---
 /MAP:200 main;
 =>
@@ -153,11 +157,15 @@ publics: true
 ---
 /LI main;
 =>
-map: Some(Beside), map_form: NumberedLink, folders: []
+map: Some(Beside), map_form: Link { line_numbers: true }, folders: []
 ---
 /T main,prog.com;
 =>
 form: Some(Com), default_libraries: true
+---
+/T main,driver.sys;
+=>
+out: Some("driver.sys"), map: None, map_form: Link { line_numbers: false }, folders: [], object_folders: [], ignore_case: true, order: Meeting, null_bytes: false, stack: None, form: Some(Com), default_libraries: true
 ---
 /DO /T main;
 =>
@@ -197,7 +205,7 @@ warnings: [IdleAt { place: 0, idle: Nothing }, IdleAt { place: 6, idle: Nothing 
 ---
 -noi -st:512 main/m,prog;
 =>
-map: Some(Beside), map_form: Link, folders: [], object_folders: [], ignore_case: false, order: Meeting, null_bytes: true, stack: Some(Stack { bytes: 512, cuts: true })"#;
+map: Some(Beside), map_form: Link { line_numbers: false }, folders: [], object_folders: [], ignore_case: false, order: Meeting, null_bytes: true, stack: Some(Stack { bytes: 512, cuts: true })"#;
     hold_in(&rt, rt.alloc(), Language::Link, table);
 }
 
@@ -335,9 +343,9 @@ main,con;
 =>
 kind: Device
 ---
-main,,,,prog.def;
+main,,,,prog.def more;
 =>
-kind: Definitions
+Err(Word { place: 17, word: "more", kind: SecondName })
 ---
 main; util
 =>
@@ -351,7 +359,7 @@ fn reads_the_environment(rt: HostRuntime) {
 :
 main;
 =>
-inputs: [File("main")], out: None, map: None, map_form: Link, folders: [], object_folders: [], ignore_case: false
+inputs: [File("main")], out: None, map: None, map_form: Link { line_numbers: false }, folders: [], object_folders: [], ignore_case: false
 ---
 /CO
 :
@@ -381,7 +389,7 @@ crt0 /NOD
 :
 main,prog;
 =>
-inputs: [File("crt0"), File("main")], out: Some("prog"), map: None, map_form: Link, folders: [], object_folders: [], ignore_case: true, order: Meeting, null_bytes: true, stack: None, form: Some(Exe), default_libraries: false
+inputs: [File("crt0"), File("main")], out: Some("prog"), map: None, map_form: Link { line_numbers: false }, folders: [], object_folders: [], ignore_case: true, order: Meeting, null_bytes: true, stack: None, form: Some(Exe), default_libraries: false
 ---
 crt0
 :

@@ -22,11 +22,11 @@ pub(crate) fn hold_in<R: Abort>(rt: &R, alloc: Global, language: Language, table
 fn reads_fields(rt: HostRuntime) {
     let table = r#"main
 =>
-Ok(MakefileJob { job: Job { inputs: [File("main")], out: None, map: Some(Beside), map_form: Tlink, folders: [], object_folders: [], ignore_case: true, order: Meeting, null_bytes: false, stack: None, form: Some(Exe), default_libraries: true, left_out: [], keep_debug: false, packs_far_data: false, verbose: false, quiet: false, start: None, references: [], aliases: [] }, settings: Settings { case_counts: false, no_defaults: false, no_map: false, makes_map: true, publics: false, line_numbers: false, detailed: false, writes_all: false, verbose: false, form: Exe, order: Meeting, stack: None, most_extra: None }, warnings: [] })
+Ok(MakefileJob { job: Job { inputs: [File("main")], out: None, map: Some(Beside), map_form: Tlink { line_numbers: false, details: false }, folders: [], object_folders: [], ignore_case: true, order: Meeting, null_bytes: false, stack: None, form: Some(Exe), default_libraries: true, left_out: [], keep_debug: false, packs_far_data: false, verbose: false, quiet: false, start: None, references: [], aliases: [] }, definitions: None, settings: Settings { case_counts: false, no_defaults: false, no_map: false, makes_map: true, publics: false, line_numbers: false, detailed: false, writes_all: false, verbose: false, form: Exe, order: Meeting, stack: None, most_extra: None }, warnings: [] })
 ---
 /c /x c0s main util, prog.exe, prog.map, emu maths cs
 =>
-inputs: [File("c0s"), File("main"), File("util"), Library("emu"), Library("maths"), Library("cs")], out: Some("prog.exe"), map: None, map_form: Tlink, folders: [], object_folders: [], ignore_case: false,
+inputs: [File("c0s"), File("main"), File("util"), Library("emu"), Library("maths"), Library("cs")], out: Some("prog.exe"), map: None, map_form: Tlink { line_numbers: false, details: false }, folders: [], object_folders: [], ignore_case: false,
 ---
 c0s+main+util,prog,prog,cs
 =>
@@ -74,11 +74,11 @@ inputs: [File("my main.obj"), File("util"), Library("my lib.lib")], out: Some("m
 ---
 ..\lib\c0s main,prog,,c:\tc\lib\ cs
 =>
-inputs: [File("..\\lib\\c0s"), File("main"), Library("cs")], out: Some("prog"), map: Some(Beside), map_form: Tlink, folders: ["c:\\tc\\lib\\"]
+inputs: [File("..\\lib\\c0s"), File("main"), Library("cs")], out: Some("prog"), map: Some(Beside), map_form: Tlink { line_numbers: false, details: false }, folders: ["c:\\tc\\lib\\"]
 ---
 main,,,libs/ d: cs
 =>
-inputs: [File("main"), Library("cs")], out: None, map: Some(Beside), map_form: Tlink, folders: ["libs/", "d:"]
+inputs: [File("main"), Library("cs")], out: None, map: Some(Beside), map_form: Tlink { line_numbers: false, details: false }, folders: ["libs/", "d:"]
 ---
 my-prog a-b,x-y
 =>
@@ -94,7 +94,19 @@ inputs: [File("main")], out: None, map: Some(Beside)
 ---
 main,com0,lpt10
 =>
-out: Some("com0"), map: Some(At("lpt10"))"#;
+out: Some("com0"), map: Some(At("lpt10"))
+---
+main,prog,OUT/con
+=>
+out: Some("prog"), map: Some(At("-"))
+---
+main,prog,C:\X\Nul.map,lib\nul a:nul: cs
+=>
+inputs: [File("main"), Library("cs")], out: Some("prog"), map: None, map_form: Tlink { line_numbers: false, details: false }, folders: []
+---
+main,nul\prog,prn/list,con\
+=>
+inputs: [File("main")], out: Some("nul\\prog"), map: Some(At("prn/list")), map_form: Tlink { line_numbers: false, details: false }, folders: ["con\\"]"#;
     hold_in(&rt, rt.alloc(), Language::Tlink, table);
 }
 
@@ -106,11 +118,11 @@ inputs: [File("main")], out: None, map: None
 ---
 main/x/c,prog
 =>
-inputs: [File("main")], out: Some("prog"), map: None, map_form: Tlink, folders: [], object_folders: [], ignore_case: false
+inputs: [File("main")], out: Some("prog"), map: None, map_form: Tlink { line_numbers: false, details: false }, folders: [], object_folders: [], ignore_case: false
 ---
 -x -c main
 =>
-inputs: [File("main")], out: None, map: None, map_form: Tlink, folders: [], object_folders: [], ignore_case: false
+inputs: [File("main")], out: None, map: None, map_form: Tlink { line_numbers: false, details: false }, folders: [], object_folders: [], ignore_case: false
 ---
 /x/c/n main
 =>
@@ -126,15 +138,15 @@ publics: true, line_numbers: true, detailed: true, writes_all: true
 ---
 /l main
 =>
-map: Some(Beside), map_form: NumberedTlink, folders: []
+map: Some(Beside), map_form: Tlink { line_numbers: true, details: false }, folders: []
 ---
 /l /l- main
 =>
-map: Some(Beside), map_form: Tlink, folders: []
+map: Some(Beside), map_form: Tlink { line_numbers: false, details: false }, folders: []
 ---
 /m- /c- /x- main
 =>
-map: Some(Beside), map_form: Tlink, folders: [], object_folders: [], ignore_case: true
+map: Some(Beside), map_form: Tlink { line_numbers: false, details: false }, folders: [], object_folders: [], ignore_case: true
 ---
 /c /c- /c main
 =>
@@ -142,7 +154,7 @@ ignore_case: false
 ---
 main,prog/x,list,cs/n
 =>
-inputs: [File("main"), Library("cs")], out: Some("prog"), map: None, map_form: Tlink, folders: [], object_folders: [], ignore_case: true, order: Meeting, null_bytes: false, stack: None, form: Some(Exe), default_libraries: false
+inputs: [File("main"), Library("cs")], out: Some("prog"), map: None, map_form: Tlink { line_numbers: false, details: false }, folders: [], object_folders: [], ignore_case: true, order: Meeting, null_bytes: false, stack: None, form: Some(Exe), default_libraries: false
 ---
 /t main,prog.com
 =>
@@ -151,6 +163,46 @@ form: Some(Com), default_libraries: true
 /Tdc main
 =>
 form: Some(Com), default_libraries: true
+---
+/t main,driver.sys
+=>
+out: Some("driver.sys"), map: Some(Beside), map_form: Tlink { line_numbers: false, details: false }, folders: [], object_folders: [], ignore_case: true, order: Meeting, null_bytes: false, stack: None, form: Some(FromStart), default_libraries: true
+---
+/Tdc main,..\bin.dir\BOOT.BIN
+=>
+form: Some(FromStart), default_libraries: true
+---
+/t main,c:prog.com.sys
+=>
+form: Some(FromStart), default_libraries: true
+---
+/t main,prog.
+=>
+out: Some("prog."), map: Some(Beside), map_form: Tlink { line_numbers: false, details: false }, folders: [], object_folders: [], ignore_case: true, order: Meeting, null_bytes: false, stack: None, form: Some(FromStart), default_libraries: true
+---
+/t main,PROG.SYS.Com
+=>
+form: Some(Com), default_libraries: true
+---
+/t main,..\bin.dir\prog
+=>
+form: Some(Com), default_libraries: true
+---
+/t main,out.dir/prog
+=>
+out: Some("out.dir/prog"), map: Some(Beside), map_form: Tlink { line_numbers: false, details: false }, folders: [], object_folders: [], ignore_case: true, order: Meeting, null_bytes: false, stack: None, form: Some(Com), default_libraries: true
+---
+/t main,out.dir\
+=>
+form: Some(Com), default_libraries: true
+---
+/t main.sys,,main.lst
+=>
+form: Some(Com), default_libraries: true
+---
+/t/t- main,driver.sys
+=>
+form: Some(Exe), default_libraries: true
 ---
 /t /Tde main
 =>
@@ -166,7 +218,7 @@ form: Some(Exe), default_libraries: true
 ---
 /L..\lib;c:\tc\lib main
 =>
-inputs: [File("main")], out: None, map: Some(Beside), map_form: Tlink, folders: ["..\\lib", "c:\\tc\\lib"]
+inputs: [File("main")], out: None, map: Some(Beside), map_form: Tlink { line_numbers: false, details: false }, folders: ["..\\lib", "c:\\tc\\lib"]
 ---
 -L/usr/tc/lib main,,,more/
 =>
@@ -182,7 +234,7 @@ folders: ["c:\\tc\\lib"], object_folders: [], ignore_case: false
 ---
 -L..\lib;b/c/x main
 =>
-inputs: [File("main")], out: None, map: None, map_form: Tlink, folders: ["..\\lib", "b"], object_folders: [], ignore_case: false
+inputs: [File("main")], out: None, map: None, map_form: Tlink { line_numbers: false, details: false }, folders: ["..\\lib", "b"], object_folders: [], ignore_case: false
 ---
 obj/job.obj lib/LIBC.LIB src/yacc.obj,,,lib/TC.LIB
 =>
@@ -190,15 +242,15 @@ inputs: [File("obj/job.obj"), File("lib/LIBC.LIB"), File("src/yacc.obj"), Librar
 ---
 src/Readme/Tdc/P=1/c
 =>
-inputs: [File("src/Readme")], out: None, map: Some(Beside), map_form: Tlink, folders: [], object_folders: [], ignore_case: false
+inputs: [File("src/Readme")], out: None, map: Some(Beside), map_form: Tlink { line_numbers: false, details: false }, folders: [], object_folders: [], ignore_case: false
 ---
 main/La/c
 =>
-inputs: [File("main/La")], out: None, map: Some(Beside), map_form: Tlink, folders: [], object_folders: [], ignore_case: false
+inputs: [File("main/La")], out: None, map: Some(Beside), map_form: Tlink { line_numbers: false, details: false }, folders: [], object_folders: [], ignore_case: false
 ---
 /c/La;b main
 =>
-inputs: [File("main")], out: None, map: Some(Beside), map_form: Tlink, folders: ["a", "b"], object_folders: [], ignore_case: false
+inputs: [File("main")], out: None, map: Some(Beside), map_form: Tlink { line_numbers: false, details: false }, folders: ["a", "b"], object_folders: [], ignore_case: false
 ---
 /v /3 main
 =>
@@ -232,6 +284,18 @@ folders: [], object_folders: ["L", "jx"], ignore_case: true
 =>
 folders: [], object_folders: ["c:\\obj"], ignore_case: false
 ---
+/L"C:\my libs" main
+=>
+inputs: [File("main")], out: None, map: Some(Beside), map_form: Tlink { line_numbers: false, details: false }, folders: ["C:\\my libs"]
+---
+/c/L"a b";c;"d, e+f;g" main -j"C:/o b";\o/x
+=>
+inputs: [File("main")], out: None, map: None, map_form: Tlink { line_numbers: false, details: false }, folders: ["a b", "c", "d, e+f;g"], object_folders: ["C:/o b", "\\o"], ignore_case: false
+---
+/L"a/c" main
+=>
+folders: ["a/c"], object_folders: [], ignore_case: true
+---
 /c/m/s main,prog,,cs /x
 =>
 map: None"#;
@@ -255,7 +319,7 @@ main +
 util
 prog
 =>
-inputs: [File("c0s"), File("main"), File("util")], out: Some("prog"), map: None, map_form: Tlink, folders: [], object_folders: [], ignore_case: false
+inputs: [File("c0s"), File("main"), File("util")], out: Some("prog"), map: None, map_form: Tlink { line_numbers: false, details: false }, folders: [], object_folders: [], ignore_case: false
 ---
 main
 
@@ -326,6 +390,22 @@ main -q
 =>
 Err(Word { place: 5, word: "-q", kind: UnknownOption })
 ---
+/L"a b"c main
+=>
+Err(Word { place: 0, word: "/L\"a b\"c", kind: PartlyQuoted })
+---
+/L"a b"/c main
+=>
+Err(Word { place: 0, word: "/L\"a b\"/c", kind: TwoWays })
+---
+/L"a b main
+=>
+Err(Word { place: 0, word: "/L", kind: NoFolders })
+---
+/Lx;"a b main
+=>
+Err(Word { place: 4, word: "\"", kind: UnclosedQuote })
+---
 main "util
 =>
 Err(Word { place: 5, word: "\"", kind: UnclosedQuote })
@@ -350,9 +430,21 @@ main,,Lpt1:
 =>
 kind: Device
 ---
-main,,,,prog.def
+main,sub\nul
 =>
-kind: Definitions
+Err(Word { place: 5, word: "sub\\nul", kind: Device })
+---
+main,,C:\X\PRN.map
+=>
+Err(Word { place: 6, word: "C:\\X\\PRN.map", kind: Device })
+---
+main,,,,sub\con.def
+=>
+Err(Word { place: 8, word: "sub\\con.def", kind: Device })
+---
+main,,,,nul nul
+=>
+Err(Word { place: 12, word: "nul", kind: SecondName })
 ---
 main (a+b)
 =>
@@ -408,7 +500,7 @@ fn reads_tlink_cfg(rt: HostRuntime) {
 :
 c0s main,prog
 =>
-inputs: [File("c0s"), File("main")], out: Some("prog"), map: None, map_form: Tlink, folders: ["c:\\tc\\lib", "d:\\lib"], object_folders: [], ignore_case: false
+inputs: [File("c0s"), File("main")], out: Some("prog"), map: None, map_form: Tlink { line_numbers: false, details: false }, folders: ["c:\\tc\\lib", "d:\\lib"], object_folders: [], ignore_case: false
 ---
 /c /x -n
 
@@ -422,13 +514,13 @@ publics: true, line_numbers: false, detailed: false, writes_all: false, verbose:
 :
 /c- main /x- /Tde
 =>
-inputs: [File("main")], out: None, map: Some(Beside), map_form: Tlink, folders: [], object_folders: [], ignore_case: true, order: Meeting, null_bytes: false, stack: None, form: Some(Exe)
+inputs: [File("main")], out: None, map: Some(Beside), map_form: Tlink { line_numbers: false, details: false }, folders: [], object_folders: [], ignore_case: true, order: Meeting, null_bytes: false, stack: None, form: Some(Exe)
 ---
 /x- /c-
 :
 main /x/c
 =>
-map: None, map_form: Tlink, folders: [], object_folders: [], ignore_case: false
+map: None, map_form: Tlink { line_numbers: false, details: false }, folders: [], object_folders: [], ignore_case: false
 ---
 /La /Lb
 :
@@ -441,7 +533,7 @@ folders: ["a", "b", "c", "d/"]
 :
 main
 =>
-inputs: [File("main")], out: None, map: None, map_form: Tlink, folders: [], object_folders: [], ignore_case: false
+inputs: [File("main")], out: None, map: None, map_form: Tlink { line_numbers: false, details: false }, folders: [], object_folders: [], ignore_case: false
 ---
 
 :

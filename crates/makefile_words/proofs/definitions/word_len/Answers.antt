@@ -1,0 +1,15 @@
+use Rattle.std.proofs.Common.{arith, length-drop, rules, tests}
+use Rattle.std.proofs.lemmas.Iterator.{YieldsList-from_slice}
+use Rattle.std.proofs.lemmas.Iterator.Search.{position_from_yields_List}
+use Rattle.std.proofs.lemmas.List.{take_all}
+use Rattle.makefile_words.specs.Definitions.{ends_word}
+use Rattle.makefile_words.proofs.TokensLemmas.{place-from}
+use Rattle.makefile_words.proofs.definitions.word_len.Goals as goal
+
+pub returns-clause-len : goal.returns-clause-len
+returns-clause-len c =
+    let found =
+    position_from_yields_List ends_word _ _ c.position-end.result c.position-end.ensures.ran
+    (YieldsList-from_slice _ c.iter.ensures.rest) (λ x b q k. search (rules, tests)) in
+    place-from ends_word c.args.text.now 1 _ c.position-end.result c.unwrap_or.result
+    (take_all _ _ (omega (arith, length-drop 1 c.args.text.now))) found c.unwrap_or.ensures
