@@ -1,5 +1,6 @@
 -- What bringing a program into a form answers.
-use Rattle.std.proofs.Common.{◌≡◌, ℕ, max, List, [], Ok, Err, Some, None, refl, sym, subst}
+use Rattle.std.proofs.Common.{◌≡◌, ◌⊎◌, ℕ, Bool, true, false, inl, inr, max, List, [], Ok, Err, Some, None}
+use Rattle.std.proofs.Common.{refl, sym, subst}
 use Rattle.std.specs.declared.option.Option.{Option}
 use Rattle.std.specs.declared.result.Result.{Result}
 use Rattle.std.specs.Io.KnownBytes.{Appends}
@@ -9,16 +10,18 @@ use Rattle.omf_image.specs.Program.{IsProgram}
 use Rattle.omf_image.specs.Words.{word_at}
 use Rattle.omf_commands.specs.Linking.{HoldsAtEachParagraph}
 use Rattle.omf_commands.specs.declared.linking.Report.{Report}
-use Rattle.flat_file.specs.Forms.{bin_bytes, com_bytes, com_fault, raw_fault, sys_bytes}
-use Rattle.flat_file.specs.Laws.{BinIsLocated, ComLoadsAsWritten, IsLocatedCom, IsLocatedFrom, RawIsWhole, SysIsLocated}
+use Rattle.flat_file.specs.Forms.{bin_bytes, com_bytes, com_fault, from_start_bytes, from_start_fault, raw_fault}
+use Rattle.flat_file.specs.Forms.{starts_at_0, sys_bytes}
+use Rattle.flat_file.specs.Laws.{BinIsLocated, ComLoadsAsWritten, FromStartIsLocated, FromStartLoadsAsWritten}
+use Rattle.flat_file.specs.Laws.{IsLocatedCom, IsLocatedFrom, RawIsWhole, SysIsLocated}
 use Rattle.flat_file.specs.Com.{LoadedCom, loading}
 use Rattle.flat_file.specs.Writing.{WritesForm}
 use Rattle.flat_file.specs.declared.fault.FlatFault.{FlatFault}
 use Rattle.flat_file.specs.declared.fault.FlatFault.TheVariants as flat
 use Rattle.flat_file.specs.declared.fault.FormFault.{FormFault}
 use Rattle.doslink_words.specs.declared.job.Form.{Form}
-use Rattle.doslink_words.specs.declared.job.Form.TheVariants.{Exe, LimitedExe, Com, Raw, Driver}
-use Rattle.doslink_link.specs.Forms.{Forms, HasForm, IsFormed, form_fault, limited}
+use Rattle.doslink_words.specs.declared.job.Form.TheVariants.{Exe, LimitedExe, Com, Raw, Driver, FromStart}
+use Rattle.doslink_link.specs.Forms.{BeginsAtStart, Forms, HasForm, IsFormed, form_fault, limited}
 use Rattle.doslink_link.specs.inside.Making.{Makes}
 use Rattle.doslink_link.specs.Linking.{IsLinkedAs}
 use Rattle.doslink_link.proofs.Limiting.{limited_holds}
@@ -132,3 +135,22 @@ module _ {A : Type 0} (names : Names) (modules : List Module) (report : Report A
         (law report.layout modules report.program linked.reported.linked.program is
         (of_modules (Some Driver) None none) paragraph))
     as_driver law (Err e) wrong = is_refused items (Some Driver) (sys_bytes report.program) e wrong
+
+    either : (b : Bool) → (b ≡ true) ⊎ (b ≡ false)
+    either true = inl refl
+    either false = inr refl
+
+    pub as_from_start : FromStartIsLocated → FromStartLoadsAsWritten → (r : Result V FlatFault)
+        → Makes items (from_start_fault report.layout report.modules.items report.program)
+        (from_start_bytes report.program) r → Forms items (Some FromStart) names modules report r
+    as_from_start located loads (Ok made) (none, same) =
+        let of = linked.reported.linked.program in
+        let without = of_modules (Some FromStart) None none in
+        let begins : BeginsAtStart report.layout modules (from_start_bytes report.program) =
+        elim (either (starts_at_0 report.program)) [
+          | inl at_0 ↦ inl (located report.layout modules report.program of is without at_0)
+          | inr at_100h ↦ inr (loads report.layout modules report.program of is without at_100h)
+        ] in
+        is_formed (Some FromStart) (items made) none (subst (BeginsAtStart report.layout modules) (sym same) begins)
+    as_from_start located loads (Err e) wrong =
+        is_refused items (Some FromStart) (from_start_bytes report.program) e wrong

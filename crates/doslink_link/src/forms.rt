@@ -3,7 +3,8 @@ ghost use Rattle.std.specs.Prelude.{◌≡◌, ◌≤◌, IfOk, List, None, Some
 ghost use Rattle.omf_module.specs.Module.{Module};
 ghost use Rattle.omf_place.specs.declared.names.Names.{Names};
 ghost use Rattle.omf_place.specs.Bounded.{IsBounded};
-ghost use Rattle.flat_file.specs.Forms.{bin_bytes, com_bytes, com_fault, raw_fault, sys_bytes, sys_fault};
+ghost use Rattle.flat_file.specs.Forms.{bin_bytes, com_bytes, com_fault, from_start_bytes, from_start_fault};
+ghost use Rattle.flat_file.specs.Forms.{raw_fault, sys_bytes, sys_fault};
 ghost use Rattle.doslink_link.specs.Forms.{Forms, limited};
 ghost use Rattle.doslink_link.specs.Linking.{IsLinkedAs};
 ghost use Rattle.doslink_link.specs.inside.Making.{Makes};
@@ -12,8 +13,8 @@ use crate::linking::Linked;
 use crate::page::Page;
 use doslink_words::Form;
 use flat_file::{
-    FlatFault, bin_is_located, com_loads_as_written, sys_is_located, write_com, write_raw,
-    write_sys,
+    FlatFault, bin_is_located, com_loads_as_written, from_start_is_located, sys_is_located,
+    write_com, write_from_start, write_raw, write_sys,
 };
 use omf_commands::Report;
 use omf_image::Program;
@@ -77,6 +78,23 @@ fn driver_file<A: Allocator + Copy>(alloc: A, program: &Program<A>) -> Result<Ve
     }
 }
 
+/// The bytes of a file of what was linked that begins where it starts.
+fn from_start_file<A: Allocator + Copy>(
+    alloc: A,
+    report: &Report<A>,
+) -> Result<Vec<u8, A>, FlatFault>
+    requires { IsBounded report.now.modules.items report.now.layout }
+    ensures { Makes (λ file. file.items)
+        (from_start_fault report.now.layout report.now.modules.items report.now.program)
+        (from_start_bytes report.now.program) result }
+{
+    let mut page = Page::new(alloc);
+    match write_from_start(&report.modules, &report.layout, &report.program, &mut page) {
+        Ok(()) => Ok(page.bytes),
+        Err(fault) => Err(fault),
+    }
+}
+
 /// An EXE file with a limit of the memory behind its image.
 fn limited_file<A: Allocator + Copy>(exe: Vec<u8, A>, paragraphs: u16) -> Vec<u8, A>
     ensures { 28 ≤ length exe.items → result.items ≡ limited paragraphs exe.items }
@@ -106,6 +124,7 @@ fn file_in<A: Allocator + Copy>(
     com_loads_as_written();
     bin_is_located();
     sys_is_located();
+    from_start_is_located();
     let _size = report.program.size();
     match form {
         Form::Exe => Ok(exe),
@@ -113,6 +132,7 @@ fn file_in<A: Allocator + Copy>(
         Form::Com => com_file(alloc, report),
         Form::Raw { paragraph, from } => raw_file(alloc, report, paragraph, from),
         Form::Driver => driver_file(alloc, &report.program),
+        Form::FromStart => from_start_file(alloc, report),
     }
 }
 

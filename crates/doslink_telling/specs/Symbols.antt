@@ -1,5 +1,5 @@
--- The symbol table of an archive, as `ar` and `ranlib` write it in front of all members: names, each with the member that
--- defines it. It is looked at only for names that are missing, and nothing is linked by it.
+-- The symbol table of an archive, as `ar` and `ranlib` write it in front of all members: names, each with the member
+-- that defines it. It is looked at only for names that are missing, and nothing is linked by it.
 use Rattle.std.specs.Prelude.{ℕ, zero, suc, ◌*◌, ◌/◌, ◌==◌, ◌||◌, Bool, true, false, if◌then◌else◌}
 use Rattle.std.specs.Prelude.{List, [], ◌∷◌, ◌++◌, codes, drop, nat_eq, take, Some, None}
 use Rattle.std.specs.declared.option.Option.{Option}

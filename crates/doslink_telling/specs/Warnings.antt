@@ -57,7 +57,8 @@ excess_line fault bytes =
 
 -- the modules ask for a longer stack than is asked for
 abbrev pub long_stack_line : (bytes : ℕ) → List ℕ
-long_stack_line bytes = concat (codes "doslink: link: 66 StackTooLong: more than " ∷ grouped bytes ∷ codes " bytes\n" ∷ [])
+long_stack_line bytes =
+    concat (codes "doslink: link: 66 StackTooLong: more than " ∷ grouped bytes ∷ codes " bytes\n" ∷ [])
 
 -- ---- warnings
 

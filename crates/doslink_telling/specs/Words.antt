@@ -1,5 +1,6 @@
 -- The words for modules in lines, and the modules that are linked.
-use Rattle.std.specs.Prelude.{ℕ, if◌then◌else◌, length, nat_le, take, List, [], ◌∷◌, ◌++◌, codes, slice_get, Some, None, Vec}
+use Rattle.std.specs.Prelude.{ℕ, if◌then◌else◌, length, nat_le, take, List, [], ◌∷◌, ◌++◌, codes, slice_get, Some, None}
+use Rattle.std.specs.Prelude.{Vec}
 use Rattle.std.specs.declared.option.Option.{Option}
 use Rattle.std.specs.Borrow.{Bor}
 use Rattle.std.specs.List.{concat, enumerate_from, flat_map}

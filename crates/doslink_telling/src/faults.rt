@@ -46,6 +46,7 @@ fn unread_text(fault: ReadFault) -> &'static str
         ReadFault::Absent => "no such file",
         ReadFault::Folder => "it is a folder",
         ReadFault::Forbidden => "no permission",
+        ReadFault::NoDrive => "there is no such drive",
         ReadFault::Special => "it is no regular file",
         ReadFault::Unopened(ErrorKind::InvalidData) => "two names there differ by case alone",
         ReadFault::Unopened(kind) => system_text(kind, "it can't be opened"),
@@ -71,7 +72,8 @@ pub fn push_unread_line<'p, A: Allocator + Copy>(
     push_parts(lines, parts.as_slice())
 }
 
-/// Why a file isn't written. `AlreadyExists` is that the path leads to one that was just written.
+/// Why a file isn't written. `AlreadyExists` is that the path leads to one that was just written, and
+/// `AddrNotAvailable` that it begins with a drive that isn't here.
 fn unwritten_text(kind: ErrorKind) -> &'static str
     ensures { result.now ≡ spec.unwritten_text kind }
 {
@@ -82,6 +84,7 @@ fn unwritten_text(kind: ErrorKind) -> &'static str
         ErrorKind::AlreadyExists => "it was just written",
         ErrorKind::StorageFull | ErrorKind::QuotaExceeded => "no space is left",
         ErrorKind::BrokenPipe => "nobody reads it any more",
+        ErrorKind::AddrNotAvailable => "there is no such drive",
         ErrorKind::InvalidData => "two names there differ by case alone",
         ErrorKind::OutOfMemory => "out of memory",
         kind => system_text(kind, "it can't be written"),
@@ -243,8 +246,8 @@ pub fn push_overflow<A: Allocator + Copy>(
     push_located(lines, word, (61, "SumAbove16Bits"), " at record ", place)
 }
 
-/// Appends the line of an alias that goes round for ever, by the place of its record in the module for which this is the
-/// word.
+/// Appends the line of an alias that goes round for ever, by the place of its record in the module for which this is
+/// the word.
 pub fn push_endless_alias<A: Allocator + Copy>(
     alloc: A,
     lines: &mut Vec<u8, A>,

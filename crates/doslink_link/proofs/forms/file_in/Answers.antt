@@ -3,7 +3,7 @@ use Rattle.flat_file.specs.Forms.{com_bytes, com_fault}
 use Rattle.flat_file.specs.Laws.{ComLoadsAsWritten}
 use Rattle.doslink_link.specs.Forms.{Forms, IsFormed}
 use Rattle.doslink_link.specs.inside.Making.{Makes}
-use Rattle.doslink_link.proofs.Forming.{as_driver, as_exe, as_limited, as_raw, formed_com}
+use Rattle.doslink_link.proofs.Forming.{as_driver, as_exe, as_from_start, as_limited, as_raw, formed_com}
 use Rattle.doslink_link.proofs.Limiting.{long_file}
 use Rattle.doslink_link.proofs.forms.file_in.Goals as goal
 
@@ -29,6 +29,14 @@ returns-in-Driver g c names modules linked =
     (sym c.in-Driver.is)
     (as_driver names modules c.args.report.now c.args.exe.items linked c.size-size.ensures.limits (λ file. file.items)
     c.sys_is_located.ensures c.driver_file.result c.driver_file.ensures)
+
+pub returns-in-FromStart : goal.returns-in-FromStart
+returns-in-FromStart g c names modules linked =
+    subst (λ f. Forms (λ file. file.items) (Some f) names modules c.args.report.now c.from_start_file.result)
+    (sym c.in-FromStart.is)
+    (as_from_start names modules c.args.report.now c.args.exe.items linked c.size-size.ensures.limits
+    (λ file. file.items) c.from_start_is_located.ensures.at_0 c.from_start_is_located.ensures.at_100h
+    c.from_start_file.result c.from_start_file.ensures)
 
 pub returns-in-Exe : goal.returns-in-Exe
 returns-in-Exe g c names modules linked =
