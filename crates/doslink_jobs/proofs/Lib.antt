@@ -20,7 +20,8 @@ pub mod Overflowing
 pub mod Passing
 pub mod Placing
 pub mod Refused
-pub mod Spoken
+pub mod Speaking
+pub mod Asking
 mod Splitting
 mod Warning
 pub mod Stacked

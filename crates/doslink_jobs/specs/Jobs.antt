@@ -132,7 +132,8 @@ library_folders folders job = texts job.folders.items ++ folders
 abbrev pub AreGiven : (told : Text → Option (List ℕ)) → (folders : List Text) → Job → (given : List (List ℕ)) → Type 0
 AreGiven told folders job given =
     (files : List (List ℕ))
-    × AreSought told (texts job.object_folders.items) (library_folders folders job) (map sought_of job.inputs.items) files
+    × AreSought told (texts job.object_folders.items) (library_folders folders job) (map sought_of job.inputs.items)
+    files
     × (given ≡ files ++ names_files job)
 
 -- one of these modules names this default library

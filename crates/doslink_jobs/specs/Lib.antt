@@ -15,6 +15,7 @@ pub mod Places
 pub mod Refusals
 pub mod Responses
 pub mod Runs
+pub mod Spoken
 pub mod Stacks
 pub mod Written
 pub mod Wrong

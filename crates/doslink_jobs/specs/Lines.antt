@@ -1,7 +1,7 @@
 -- A line of LINK or TLINK: its text, with what response files say in the places of their words, and its job, whose
 -- names are whole. `told` are the bytes of files by their paths, where the world tells them.
 use Rattle.std.specs.Prelude.{◌≡◌, ◌≢◌, ◌⊎◌, ◌==◌, ◌&&◌, ◌||◌, ℕ, zero, suc, Bool, not, List, [], ◌∷◌, ◌++◌, codes}
-use Rattle.std.specs.Prelude.{None, Some, MatchOption, if◌then◌else◌}
+use Rattle.std.specs.Prelude.{None, Some, MatchOption, Ok, if◌then◌else◌}
 use Rattle.std.specs.declared.option.Option.{Option}
 use Rattle.std.specs.Char.{is_ascii_whitespace}
 use Rattle.std.specs.List.{flat_map, list_any}
@@ -12,9 +12,11 @@ use Rattle.clap.specs.Words.{Text}
 use Rattle.doslink_files.specs.Paths.{has_extension}
 use Rattle.doslink_words.specs.Said.{SaidMap, At, Beside, map_of}
 use Rattle.doslink_words.specs.declared.job.Job.{Job}
+use Rattle.makefile_words.specs.Definitions as definitions
 use Rattle.makefile_words.specs.Tokens.{PlacedPiece, Piece, Word, Quoted, Unclosed, Blank, Plus, Comma, Semicolon}
 use Rattle.makefile_words.specs.Tokens.{LineEnd}
 use Rattle.makefile_words.specs.Tokens.{text_of, tokens}
+use Rattle.makefile_words.specs.declared.line.IdleAt.{IdleAt}
 use Rattle.makefile_words.specs.declared.settings.Settings.{Settings}
 use Rattle.makefile_words.specs.declared.tokens.Language.{Language}
 use Rattle.doslink_jobs.specs.Places.{extension_for, first_file, is_output, path_after, with_extension}
@@ -91,6 +93,21 @@ IsSpoken told language (suc rounds) text line =
 abbrev pub are_followed : Settings → Bool
 are_followed settings = not settings.writes_all
 
+-- a path with an extension where it has none
+abbrev pub with_default : (path extension : Text) → Text
+with_default path extension = if has_extension path then path else path ++ extension
+
+-- a file of definitions says nothing that would have to be followed: that of a name, with `.DEF` where it has no
+-- extension
+abbrev pub IsDefinedBy : (told : Text → Option (List ℕ)) → (name : Text) → Type 0
+IsDefinedBy told name =
+    (text : Text) × IsTextIn (told (with_default name (codes ".DEF"))) text
+    × (warnings : List IdleAt) × (definitions.meaning text ≡ Ok warnings)
+
+-- so does the one that a line names, where it names one
+abbrev pub AreDefined : (told : Text → Option (List ℕ)) → (name : Option Text) → Type 0
+AreDefined told name = MatchOption name (Unit {0}) (IsDefinedBy told)
+
 -- what stands behind the last of a byte, or all where there is none
 abbrev pub behind_last : (byte : ℕ) → Text → Text
 behind_last byte path = option_map_or (λ parts. parts.1) (rsplit_once byte path) path
@@ -98,10 +115,6 @@ behind_last byte path = option_map_or (λ parts. parts.1) (rsplit_once byte path
 -- the name of a file without its folders and its drive
 abbrev pub base_name : Text → Text
 base_name path = behind_last 58 (behind_last 92 (behind_last 47 path))
-
--- a path with an extension where it has none
-abbrev pub with_default : (path extension : Text) → Text
-with_default path extension = if has_extension path then path else path ++ extension
 
 -- a path that is said, with an extension where it has none; in a folder alone, as `OBJ\`, stands this name
 abbrev pub whole_path : (path name extension : Text) → Text

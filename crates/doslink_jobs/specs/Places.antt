@@ -45,6 +45,7 @@ extension_for None = codes ".EXE"
 extension_for (Some form.Exe) = codes ".EXE"
 extension_for (Some (form.LimitedExe paragraphs)) = codes ".EXE"
 extension_for (Some form.Com) = codes ".COM"
+extension_for (Some form.FromStart) = codes ".COM"
 extension_for (Some (form.Raw paragraph from)) = codes ".BIN"
 extension_for (Some form.Driver) = codes ".SYS"
 

@@ -1,10 +1,10 @@
 -- What a run has done that ends with status 0.
-use Rattle.std.specs.Prelude.{◌≡◌, ◌⊎◌, ◌==◌, ◌||◌, ◌&&◌, ℕ, Bool, List, [], ◌∷◌, ◌++◌, codes, true, false}
+use Rattle.std.specs.Prelude.{◌≡◌, ◌⊎◌, ◌==◌, ◌||◌, ◌&&◌, ℕ, Bool, List, [], ◌∷◌, codes, true, false}
 use Rattle.std.specs.Prelude.{if◌then◌else◌}
 use Rattle.std.specs.Prelude.{Ok, None, Some, MatchOption}
 use Rattle.std.specs.declared.option.Option.{Option}
 use Rattle.std.specs.List.{flat_map, slice_split}
-use Rattle.std.specs.Option.{option_map_or, unwrap_or}
+use Rattle.std.specs.Option.{option_map, option_map_or, unwrap_or}
 use Rattle.std.specs.Str.{bytes_eq}
 use Rattle.std.specs.Char.{is_ascii_alphabetic}
 use Rattle.clap.specs.Words.{Text}
@@ -15,8 +15,7 @@ use Rattle.doslink_words.specs.Keywords.{is_keyword}
 use Rattle.doslink_words.specs.Tokens.{words}
 use Rattle.doslink_words.specs.Responses.{asks_text, response_words}
 use Rattle.doslink_words.specs.Words.{AreTaken, IsJobFor}
-use Rattle.doslink_files.specs.Files.{Each}
-use Rattle.doslink_files.specs.Paths.{has_extension, last_part}
+use Rattle.doslink_files.specs.Paths.{last_part}
 use Rattle.doslink_jobs.specs.declared.words.Language.{Language}
 use Rattle.doslink_jobs.specs.declared.words.Language.TheVariants as language
 use Rattle.makefile_words.specs.Jobs as jobs
@@ -26,11 +25,12 @@ use Rattle.makefile_words.specs.declared.job.MakefileJob.{MakefileJob}
 use Rattle.makefile_words.specs.declared.tokens.Language.{Language as Linker}
 use Rattle.makefile_words.specs.declared.tokens.Language.TheVariants as linkers
 use Rattle.doslink_jobs.specs.Jobs.{EndsWith, IsDone}
-use Rattle.doslink_jobs.specs.Lines.{IsSpoken, IsWhole, are_followed, line_of}
+use Rattle.doslink_jobs.specs.Lines.{AreDefined, IsSpoken, IsWhole, are_followed, line_of}
 use Rattle.doslink_jobs.specs.Named.{IsNamed}
 use Rattle.doslink_jobs.specs.Refusals.{IsRefusedJob}
 use Rattle.doslink_jobs.specs.Responses.{IsTextIn}
 pub use Rattle.doslink_jobs.specs.Responses.{response_path}
+use Rattle.doslink_jobs.specs.Spoken.{IsTextOf, SourceLine}
 
 -- the path of a response file that is the only word
 abbrev pub only_response : List Text → Option Text
@@ -89,24 +89,6 @@ abbrev pub line_asked : List Text → List Text
 line_asked (word ∷ []) = if asks_line_help word then codes "--help" ∷ [] else word ∷ []
 line_asked words = words
 
--- a file of directives is at the path that is said or, where that has no extension, at it with `.lnk`
-abbrev pub IsDirectivePath : (path found : Text) → Type 0
-IsDirectivePath path found = (found ≡ path) ⊎ ((has_extension path ≡ false) × (found ≡ path ++ codes ".lnk"))
-
--- these are the directives of the file of a path: its text
-abbrev pub AreDirectives : (told : Text → Option (List ℕ)) → (path part : Text) → Type 0
-AreDirectives told path part =
-    (found : Text) × IsDirectivePath path found × IsTextIn (told found) part
-
--- what a word gives of directives: those of the file that it names, and else the word itself
-abbrev pub IsPart : (told : Text → Option (List ℕ)) → (word part : Text) → Type 0
-IsPart told word part = MatchOption (response_path word) (part ≡ word) (λ path. AreDirectives told path part)
-
--- the text of directives that words give, each part a line of its own at least
-abbrev pub IsTextOf : (told : Text → Option (List ℕ)) → (words : List Text) → (text : Text) → Type 0
-IsTextOf told words text =
-    (parts : List Text) × Each (IsPart told) words parts × (text ≡ flat_map (λ part. part ++ 10 ∷ []) parts)
-
 -- words ask for no job, as where they ask for help, and as directives where they ask for a text alone
 abbrev pub AskForNone : (words : List Text) → Type 0
 AskForNone words = (AreTaken words → ⊥) ⊎ (asks_text words ≡ true)
@@ -134,15 +116,19 @@ module _ (told : Text → Option (List ℕ)) (Does : Job → Type 0) (Helps : Li
 
   -- the same of the directives that words give
   abbrev pub RunsGiven : (words : List Text) → Type 0
-  RunsGiven list = (text : Text) × IsTextOf told list text × RunsText text
+  RunsGiven list = (spoken : List SourceLine) × (text : Text) × IsTextOf told list spoken text × RunsText text
 
   -- it holds of a job with the names of its program and its map whole
   abbrev pub RunsWhole : Job → Type 0
   RunsWhole job = (whole : Job) × IsWhole job whole × Does whole
 
-  -- the same of what is made of a line, whose options can be followed
+  -- the same of what is made of a line, whose definitions need not be followed
+  abbrev pub RunsDefined : MakefileJob → Type 0
+  RunsDefined made = AreDefined told (option_map (λ name. name.now) made.definitions) × RunsWhole made.job
+
+  -- the same where its options can be followed
   abbrev pub RunsMade : MakefileJob → Type 0
-  RunsMade made = (are_followed made.settings ≡ true) × RunsWhole made.job
+  RunsMade made = (are_followed made.settings ≡ true) × RunsDefined made
 
   -- the same of the job that a line of LINK or TLINK asks for, with what stands in front of it
   abbrev pub RunsLine : Linker → (front text : Text) → Type 0

@@ -100,8 +100,9 @@ module _ (told : Text → Option (List ℕ)) (looks : Option (Text → Option Lo
       FilesOver is_read out map ⊎ ((lists ≡ true) × IsListOver is_read out map)
 
   -- Nothing is named to be linked, the program is given the extension of a form that isn't said, standard output is to
-  -- hold two things, more folders are named than are searched, or what would be written would stand in the place of something else. Which files are those that
-  -- were read isn't said: where one of them would be written over, some regular file stands there.
+  -- hold two things, more folders are named than are searched, or what would be written would stand in the place of
+  -- something else. Which files are those that were read isn't said: where one of them would be written over, some
+  -- regular file stands there.
   abbrev pub IsWrongJob : (folders : List Text) → Job → Type 0
   IsWrongJob folders job =
       NamesNothing job ⊎ ((asks_other_form job ≡ true) ⊎ ((mixes_output job ≡ true)

@@ -13,6 +13,7 @@ pub mod Passing
 pub mod Reading
 pub mod Stops
 pub mod Suspects
+pub mod Spoken
 pub mod Sums
 pub mod Defined
 pub mod FormNames

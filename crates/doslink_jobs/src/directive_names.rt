@@ -14,7 +14,7 @@ fn small_extension(form: Option<Form>) -> &'static str
 {
     match form {
         None | Some(Form::Exe | Form::LimitedExe { .. }) => ".exe",
-        Some(Form::Com) => ".com",
+        Some(Form::Com | Form::FromStart) => ".com",
         Some(Form::Raw { .. }) => ".bin",
         Some(Form::Driver) => ".sys",
     }

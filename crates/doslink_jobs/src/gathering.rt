@@ -293,7 +293,7 @@ fn find_one<W: World, A: Allocator + Copy>(
 /// Whether a look-up failed for another reason than that no regular file is there.
 fn is_there(fault: ReadFault) -> bool {
     match fault {
-        ReadFault::Absent | ReadFault::Folder | ReadFault::Special => false,
+        ReadFault::Absent | ReadFault::Folder | ReadFault::NoDrive | ReadFault::Special => false,
         ReadFault::Memory | ReadFault::Device(_) | ReadFault::Forbidden | ReadFault::Unopened(_) =>
             true,
     }
@@ -480,8 +480,8 @@ fn add_defaults<'f, W: World, A: Allocator + Copy>(
 ) -> Result<(), Stop>
     ensures files { (names : agreeing.Names) (before : List (List (List ℕ))) → Holds names before gathered.old
         → MatchResult result
-        (λ done. AddsRounds (W.bytes world.now) (texts how.entry.folders.now) (texts how.entry.left_out.now) names before
-        gathered.new)
+        (λ done. AddsRounds (W.bytes world.now) (texts how.entry.folders.now) (texts how.entry.left_out.now) names
+        before gathered.new)
         (λ stop. OnInput stop (AddsFaulty (W.bytes world.now) (texts how.entry.folders.now)
         (texts how.entry.left_out.now) names before)) }
     ensures absent { (names : agreeing.Names) (before : List (List (List ℕ))) → Holds names before gathered.old

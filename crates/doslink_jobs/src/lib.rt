@@ -3,6 +3,7 @@
 
 mod aliases;
 mod communals;
+mod definitions;
 mod directive_names;
 mod directives;
 mod faults;
@@ -30,6 +31,7 @@ mod places;
 mod program;
 mod reading;
 mod running;
+mod spoken;
 mod stacking;
 mod stop;
 mod taking;

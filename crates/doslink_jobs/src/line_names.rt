@@ -27,8 +27,8 @@ fn base_name(path: &str) -> &str
     behind_last(behind_last(behind_last(path, '/'), '\\'), ':')
 }
 
-// A path with an extension where it has none.
-fn with_default(alloc: Global, path: &str, extension: &str) -> Result<String, AllocError>
+/// A path with an extension where it has none.
+pub(crate) fn with_default(alloc: Global, path: &str, extension: &str) -> Result<String, AllocError>
     ensures { IfOk result (λ made. string_bytes made ≡ spec.with_default path.now extension.now) }
 {
     let mut made = String::from_str(alloc, path)?;

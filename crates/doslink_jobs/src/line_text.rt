@@ -17,7 +17,7 @@ use omf_files::{FileId, World};
 use std::alloc::{AllocError, Global};
 
 /// How deep response files may name others.
-const MOST_DEEP: usize = 8;
+pub(crate) const MOST_DEEP: usize = 8;
 
 /// How many response files a line may have, those that they name included.
 const MOST_FILES: usize = 200;

@@ -1,5 +1,6 @@
 //! The lines of LINK and TLINK, as jobs that are done.
-ghost use Rattle.std.specs.Prelude.{◌≡◌, ◌-◌, ◌^◌, ◌<◌, ◌++◌, OnOk, is_some, not};
+ghost use Rattle.std.specs.Prelude.{◌≡◌, ◌-◌, ◌^◌, ◌<◌, MatchResult, is_some, not};
+ghost use Rattle.std.specs.Option.{option_map};
 ghost use Rattle.omf_files.specs.Files.{sink_failures};
 ghost use Rattle.doslink_words.specs.Responses as responses;
 ghost use Rattle.doslink_words.specs.Tokens.{texts};
@@ -8,18 +9,22 @@ ghost use Rattle.doslink_jobs.specs.Fronts.{IsFront};
 ghost use Rattle.doslink_jobs.specs.Jobs.{EndsWith, Tells};
 ghost use Rattle.doslink_jobs.specs.Lines as spec;
 ghost use Rattle.doslink_jobs.specs.Runs as runs;
-ghost use Rattle.doslink_jobs.specs.Runs.{EndsBy, RunsLine, RunsLinker, RunsLines, RunsMade, RunsTyped, RunsWhole};
+ghost use Rattle.doslink_jobs.specs.Runs.{EndsBy, RunsDefined, RunsLine, RunsLinker, RunsLines, RunsMade};
+ghost use Rattle.doslink_jobs.specs.Runs.{RunsTyped, RunsWhole};
 ghost use Rattle.doslink_jobs.specs.inside.FormNames.{said_words};
+ghost use Rattle.doslink_jobs.specs.inside.Stops.{OnHalt};
 ghost use Rattle.doslink_jobs.specs.inside.Warnings as warned;
 
+use crate::definitions::read_definitions;
 use crate::form_names::{FormWords, LINK_WORDS, TLINK_WORDS, push_form_warning};
 use crate::fronts::parts_of;
 use crate::limit::Limit;
 use crate::line_names::{names_of, with_names};
 use crate::line_text::{Read, line_of};
 use crate::running::{finish, run_lines};
+use crate::stop::Halt;
 use crate::words::{Besides, Environment, out_of_memory, print_help, wrong_words};
-use doslink_words::text_asked;
+use doslink_words::{Input, Job, text_asked};
 use makefile_words::{
     FaultKind, Idle, IdleAt, Language, LineFault, MakefileJob, Settings, is_short, parse_line,
 };
@@ -38,6 +43,9 @@ pub(crate) struct LineParts<'t> {
     /// What stands behind that.
     pub text: &'t str,
 }
+
+/// What stands behind the name of a library.
+const LIBRARY_EXTENSION: &[u8] = b".LIB";
 
 /// The help of a program that takes a line.
 const LINES_HELP: &str = "\
@@ -108,8 +116,9 @@ fn unfollowed(settings: &Settings) -> Option<&'static str>
     }
 }
 
-// How many lines end before a place of a text, and how many bytes stand before it in its own line, counted from 1.
-fn place_in(text: &str, place: usize) -> (usize, usize) {
+/// The line of a text in which a place stands, and by how many bytes it does so behind that line's begin, both counted
+/// from 1.
+pub(crate) fn place_in(text: &str, place: usize) -> (usize, usize) {
     let front = text.as_bytes().get(..place).unwrap_or(text.as_bytes());
     let lines = front.iter().filter(|byte| **byte == b'\n').count();
     let behind = front.iter().rposition(|byte| *byte == b'\n');
@@ -139,12 +148,13 @@ fn place_text(alloc: Global, parts: &LineParts<'_>, place: usize) -> Result<Stri
     format!(in alloc; "{name}line {line}, column {column}")
 }
 
-// What is told of an option that has no effect.
-fn idle_text(idle: Idle) -> &'static str {
+/// What is told of an option that has no effect, and of a definition.
+pub(crate) fn idle_text(idle: Idle) -> &'static str {
     match idle {
         Idle::Debug => "no data for debuggers is written",
         Idle::Packing => "the program isn't packed: it runs the same",
         Idle::Nothing => "the option has no effect",
+        Idle::Definition => "nothing of it is used",
     }
 }
 
@@ -162,6 +172,40 @@ fn push_warning(
     Ok(())
 }
 
+// Whether a name is that of a library, by its extension.
+fn is_library_name(name: &str) -> bool {
+    let name = name.as_bytes();
+    match name.len().checked_sub(LIBRARY_EXTENSION.len()) {
+        Some(at) => name[at..].eq_ignore_ascii_case(LIBRARY_EXTENSION),
+        None => false,
+    }
+}
+
+// Appends a line for each of the first libraries among the objects, of which LINK links all members, and how many more
+// there are.
+fn push_searched_warnings(
+    alloc: Global,
+    job: &Job<'_>,
+    lines: &mut Vec<u8>,
+) -> Result<(), AllocError> {
+    let mut warnings = Limit::new(alloc, job.verbose);
+    for input in &job.inputs {
+        let Input::File(name) = input else {
+            continue;
+        };
+        if !is_library_name(name) {
+            continue;
+        }
+        if let Some(lines) = warnings.next() {
+            let told = format!(in alloc;
+                "doslink: warning: {name}: it is searched, and not linked whole\n"
+            )?;
+            lines.extend_from_slice(told.as_bytes())?;
+        }
+    }
+    warnings.append_to(lines)
+}
+
 // What makes files of other forms.
 fn form_words(linker: Language) -> FormWords
     ensures { said_words result ≡ warned.linker_words linker }
@@ -172,8 +216,8 @@ fn form_words(linker: Language) -> FormWords
     }
 }
 
-// Appends a line for each of the first warnings, and how many more there are; one of a name that is of another form;
-// and those of what the map hasn't.
+// Appends a line for each of the first warnings, and how many more there are; those of libraries that aren't linked
+// whole; and one of a name that is of another form.
 fn push_warnings(
     alloc: Global,
     made: &MakefileJob<'_>,
@@ -187,13 +231,10 @@ fn push_warnings(
         }
     }
     warnings.append_to(lines)?;
-    push_form_warning(&made.job, form_words(parts.linker), lines)?;
-    if made.job.map.is_some() && made.settings.detailed {
-        lines.extend_from_slice(
-            b"doslink: warning: the map tells of no module's parts of segments\n",
-        )?;
+    if parts.linker == Language::Link {
+        push_searched_warnings(alloc, &made.job, lines)?;
     }
-    Ok(())
+    push_form_warning(&made.job, form_words(parts.linker), lines)
 }
 
 // The line of a word that is at fault: its place, and what is wrong with it.
@@ -235,8 +276,49 @@ fn refuse_line<E: Sink>(
     }
 }
 
-// Does the job of a line, with its names whole, and hands out the exit status.
+// Does the job of a line, with its names whole, and hands out the exit status. The lines are told in front of others.
 fn run_named<W: World + Copy, O: Write + Drop, E: Sink>(
+    alloc: Global,
+    world: W,
+    made: MakefileJob<'_>,
+    besides: &Besides<'_>,
+    lines: Vec<u8>,
+    output: &mut BufferedSink<O>,
+    errors: &mut E,
+) -> u8
+    requires output { sink_failures output.old ≡ 0 }
+    requires errors { E.failures errors.old < 2 ^ 64 - 1 }
+    ensures { EndsBy Global (W.bytes world) (StandsAt (W.blank world) (W.Puts world)) (texts besides.now.folders.now)
+        (λ does helps. RunsWhole (W.bytes world) does helps made.entry.job)
+        (Tells E.written E.failures errors.old errors.new) result }
+{
+    match names_of(alloc, &made.job) {
+        Ok(names) => {
+            let job = with_names(made.job, &names);
+            run_lines(alloc, world, &job, besides, lines, output, errors)
+        }
+        Err(AllocError) => out_of_memory(errors),
+    }
+}
+
+// Warns of what is left out of a line, and of its definitions, which are read.
+fn warn_of_line<W: World>(
+    alloc: Global,
+    world: &W,
+    made: &MakefileJob<'_>,
+    parts: &LineParts<'_>,
+    read: &mut Read,
+) -> Result<(), Halt>
+    ensures { MatchResult result
+        (λ done. spec.AreDefined (W.bytes world.now) (option_map (λ name. name.now) made.now.definitions))
+        (λ why. OnHalt why ⊥ (Unit {0})) }
+{
+    push_warnings(alloc, made, parts, &mut read.lines)?;
+    read_definitions(alloc, world, made, read)
+}
+
+// Does the job of a line whose options can be followed, where its definitions need none, and hands out the exit status.
+fn run_defined<W: World + Copy, O: Write + Drop, E: Sink>(
     alloc: Global,
     world: W,
     made: MakefileJob<'_>,
@@ -248,20 +330,22 @@ fn run_named<W: World + Copy, O: Write + Drop, E: Sink>(
     requires output { sink_failures output.old ≡ 0 }
     requires errors { E.failures errors.old < 2 ^ 64 - 1 }
     ensures { EndsBy Global (W.bytes world) (StandsAt (W.blank world) (W.Puts world)) (texts besides.now.folders.now)
-        (λ does helps. RunsWhole (W.bytes world) does helps made.entry.job)
+        (λ does helps. RunsDefined (W.bytes world) does helps made.entry)
         (Tells E.written E.failures errors.old errors.new) result }
 {
-    let mut lines = Vec::new(alloc);
-    if push_warnings(alloc, &made, parts, &mut lines).is_err() {
+    let mut read = Read::new(alloc);
+    if let Err(why) = warn_of_line(alloc, &world, &made, parts, &mut read) {
+        return finish(Err(why), &read.lines, errors);
+    }
+    let Read { mut ids, lines, .. } = read;
+    if ids.extend_from_slice(besides.read).is_err() {
         return out_of_memory(errors);
     }
-    match names_of(alloc, &made.job) {
-        Ok(names) => {
-            let job = with_names(made.job, &names);
-            run_lines(alloc, world, &job, besides, lines, output, errors)
-        }
-        Err(AllocError) => out_of_memory(errors),
-    }
+    let besides = Besides {
+        folders: besides.folders,
+        read: &ids,
+    };
+    run_named(alloc, world, made, &besides, lines, output, errors)
 }
 
 // Does the job of a line where its options can be followed, and hands out the exit status.
@@ -282,7 +366,7 @@ fn run_made<W: World + Copy, O: Write + Drop, E: Sink>(
 {
     match unfollowed(&made.settings) {
         Some(why) => wrong_words(why, errors),
-        None => run_named(alloc, world, made, parts, besides, output, errors),
+        None => run_defined(alloc, world, made, parts, besides, output, errors),
     }
 }
 

@@ -79,7 +79,7 @@ pub(crate) fn extension_for(form: Option<Form>) -> &'static str
 {
     match form {
         None | Some(Form::Exe | Form::LimitedExe { .. }) => ".EXE",
-        Some(Form::Com) => ".COM",
+        Some(Form::Com | Form::FromStart) => ".COM",
         Some(Form::Raw { .. }) => ".BIN",
         Some(Form::Driver) => ".SYS",
     }

@@ -5,7 +5,6 @@ ghost use Rattle.omf_place.specs.Bounded.{IsBounded};
 ghost use Rattle.doslink_files.specs.Written.{StandsAt};
 ghost use Rattle.doslink_link.specs.Linking.{bytes_of};
 ghost use Rattle.doslink_words.specs.declared.job.MapForm.TheVariants.{Omf};
-ghost use Rattle.link_map.specs.Map.{link_map_text, numbered_map_text};
 ghost use Rattle.doslink_jobs.specs.Maps as spec;
 ghost use Rattle.doslink_jobs.specs.Written.{AreWritten};
 ghost use Rattle.doslink_jobs.specs.inside.Stops.{OnInput};
@@ -16,9 +15,7 @@ use doslink_files::put_file;
 use doslink_link::{Linked, Page};
 use doslink_telling::{push_unwritten_line, table};
 use doslink_words::{Job, MapForm};
-use link_map::{
-    LinkedProgram, MapFault, MapForm as LinkerForm, Sources, write_link_map, write_numbered_map,
-};
+use link_map::{LinkedProgram, MapFault, MapForm as LinkerForm, Shown, Sources, write_shown_map};
 use omf_commands::{Report, write_map};
 use omf_files::World;
 use std::alloc::{AllocError, Allocator};
@@ -46,40 +43,17 @@ fn omf_map<A: Allocator + Copy>(
     }
 }
 
-/// The map of what was linked in the form of LINK or of TLINK.
+/// The map of what was linked in the form of LINK or of TLINK; the inputs' words name their files.
 fn linker_map<A: Allocator + Copy>(
     alloc: A,
-    form: LinkerForm,
-    report: &Report<A>,
-) -> Result<Vec<u8, A>, AllocError>
-    ensures { IfOk result (λ text. text.items
-        ≡ link_map_text form report.now.modules.items report.now.layout report.now.program) }
-{
-    let linked = LinkedProgram {
-        modules: &report.modules,
-        layout: &report.layout,
-        program: &report.program,
-    };
-    let mut page = Page::new(alloc);
-    match write_link_map(alloc, &mut page, form, &linked) {
-        Ok(()) => Ok(page.bytes),
-        // there was no memory, for the map or for the page
-        Err(MapFault::Memory | MapFault::Device) => Err(AllocError),
-    }
-}
-
-/// The map of what was linked in the form of LINK or of TLINK, with the line numbers of the inputs, whose words name
-/// their files.
-fn numbered_map<A: Allocator + Copy>(
-    alloc: A,
-    form: LinkerForm,
+    shown: Shown,
     report: &Report<A>,
     inputs: &[&[u8]],
     words: &[&[u8]],
 ) -> Result<Vec<u8, A>, AllocError>
     requires { IsBounded report.now.modules.items report.now.layout }
-    ensures { IfOk result (λ text. text.items ≡ numbered_map_text form report.now.modules.items report.now.layout
-        report.now.program (bytes_of inputs.now) (bytes_of words.now)) }
+    ensures { IfOk result (λ text. text.items ≡ spec.linker_map shown report.now (bytes_of inputs.now)
+        (bytes_of words.now)) }
 {
     let linked = LinkedProgram {
         modules: &report.modules,
@@ -91,15 +65,36 @@ fn numbered_map<A: Allocator + Copy>(
         files: words,
     };
     let mut page = Page::new(alloc);
-    match write_numbered_map(alloc, &mut page, form, &linked, sources) {
+    match write_shown_map(alloc, &mut page, shown, &linked, sources) {
         Ok(()) => Ok(page.bytes),
         // there was no memory, for the map or for the page
         Err(MapFault::Memory | MapFault::Device) => Err(AllocError),
     }
 }
 
-/// The map of what was linked, in a form. The modules' bytes and the words for them are told in that of `omf`, and
-/// where line numbers are.
+/// What a map in the form of LINK shows.
+fn shown_by_link(line_numbers: bool) -> Shown
+    ensures { result ≡ spec.shown_by_link line_numbers }
+{
+    Shown {
+        form: LinkerForm::Link,
+        details: false,
+        line_numbers,
+    }
+}
+
+/// What a map in the form of TLINK shows.
+fn shown_by_tlink(line_numbers: bool, details: bool) -> Shown
+    ensures { result ≡ spec.shown_by_tlink line_numbers details }
+{
+    Shown {
+        form: LinkerForm::Tlink,
+        details,
+        line_numbers,
+    }
+}
+
+/// The map of what was linked, in a form, of inputs for which these are the words.
 pub fn map_bytes<A: Allocator + Copy>(
     alloc: A,
     form: MapForm,
@@ -113,10 +108,21 @@ pub fn map_bytes<A: Allocator + Copy>(
 {
     match form {
         MapForm::Omf => omf_map(alloc, report, inputs, words),
-        MapForm::Link => linker_map(alloc, LinkerForm::Link, report),
-        MapForm::NumberedLink => numbered_map(alloc, LinkerForm::Link, report, inputs, words),
-        MapForm::Tlink => linker_map(alloc, LinkerForm::Tlink, report),
-        MapForm::NumberedTlink => numbered_map(alloc, LinkerForm::Tlink, report, inputs, words),
+        MapForm::Link { line_numbers } => {
+            linker_map(alloc, shown_by_link(line_numbers), report, inputs, words)
+        }
+        MapForm::Tlink {
+            line_numbers,
+            details,
+        } => {
+            linker_map(
+                alloc,
+                shown_by_tlink(line_numbers, details),
+                report,
+                inputs,
+                words,
+            )
+        }
     }
 }
 

@@ -201,7 +201,8 @@ fn do_job<W: World + Copy, O: Write + Drop, A: Allocator + Copy>(
 ) -> Result<(), Halt>
     requires { sink_failures output.old ≡ 0 }
     ensures { MatchResult result
-        (λ done. IsNamedWell (texts besides.now.folders.now) job.now × AreApart (W.looks world) job.now.verbose (out_path job.now) (map_path job.now)
+        (λ done. IsNamedWell (texts besides.now.folders.now) job.now
+        × AreApart (W.looks world) job.now.verbose (out_path job.now) (map_path job.now)
         × IsDone A (W.bytes world) (StandsAt (W.blank world) (W.Puts world)) (texts besides.now.folders.now) job.now)
         (λ why. OnHalt why
         (IsNamedWell (texts besides.now.folders.now) job.now

@@ -113,8 +113,10 @@ fn tell_missing<'m, 'a, A: Allocator + Copy>(
     lines: &mut Vec<u8, A>,
 ) -> Result<(), Stop>
     ensures { MatchResult result
-        (λ done. HaveNoSuspect job.now (map module_said says.now) (map (λ h. (handed_held h).bytes) taken.now.handed.now)
-        (all_offering (names_of job.now.ignore_case) (map (λ w. w.name.now) missing.now) (bytes_of gathered.now.bytes.items)))
+        (λ done. HaveNoSuspect job.now (map module_said says.now)
+        (map (λ h. (handed_held h).bytes) taken.now.handed.now)
+        (all_offering (names_of job.now.ignore_case) (map (λ w. w.name.now) missing.now)
+        (bytes_of gathered.now.bytes.items)))
         (λ stop. OnInput stop (HaveSuspect job.now (map module_said says.now)
         (map (λ h. (handed_held h).bytes) taken.now.handed.now)
         (all_offering (names_of job.now.ignore_case) (map (λ w. w.name.now) missing.now)

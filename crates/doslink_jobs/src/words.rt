@@ -14,12 +14,12 @@ ghost use Rattle.doslink_jobs.specs.Runs.{EndsBy, Runs, RunsCommand, RunsDirecti
 ghost use Rattle.doslink_jobs.specs.Runs.{RunsNamed, RunsSpoken, RunsText, RunsWords};
 
 use crate::directive_names::{name_of, with_name};
-use crate::directives::{
-    Spoken, directive_line, directives_of, push_all_warnings, response_path, response_text,
-};
+use crate::directives::{directive_line, push_all_warnings, response_path, response_text};
 use crate::lines::run_linker;
 use crate::running::{finish, run_job, run_lines};
+use crate::spoken::{Spoken, directives_of};
 use crate::stop::{Halt, Stop};
+use bumpalo::Bump;
 use doslink_files::last_part;
 use doslink_words::{
     DirectiveFault, Directives, SplitFault, WordsFault, parse_directives, parse_words,
@@ -237,7 +237,8 @@ fn run_given<W: World + Copy, O: Write + Drop, E: Sink>(
         (Tells E.written E.failures errors.old errors.new) result }
 {
     let mut lines = Vec::new(alloc);
-    match directives_of(alloc, &world, words, &mut lines) {
+    let arena = Bump::new(alloc);
+    match directives_of(alloc, &world, &arena, words, &mut lines) {
         Ok(spoken) => run_spoken(alloc, world, &spoken, folders, output, errors),
         Err(why) => finish(Err(why), &lines, errors),
     }

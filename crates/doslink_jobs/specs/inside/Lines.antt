@@ -18,4 +18,5 @@ named_map map (Some name) = Some (At name)
 abbrev pub AreNamesOf : Job → Names → Type 0
 AreNamesOf job names =
     (string_bytes names.out ≡ line_out job)
-    × (named_map job.map (option_map string_bytes names.map) ≡ option_map (line_map (line_out job)) (option_map map_of job.map))
+    × (named_map job.map (option_map string_bytes names.map)
+    ≡ option_map (line_map (line_out job)) (option_map map_of job.map))

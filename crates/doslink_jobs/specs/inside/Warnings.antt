@@ -96,7 +96,8 @@ directive_words =
 abbrev pub form_help : FormHelps → (extension : List ℕ) → List ℕ
 form_help helps extension =
     if is_keyword extension (codes "com") then helps.com_file
-    else (if is_keyword extension (codes "sys") then codes "doslink --form sys makes a device driver" else helps.raw_image)
+    else (if is_keyword extension (codes "sys") then codes "doslink --form sys makes a device driver"
+    else helps.raw_image)
 
 -- the line of a name
 abbrev pub form_line : FormHelps → (out : List ℕ) → List ℕ

@@ -178,17 +178,17 @@ fn all_that_is_not_read_is_told(rt: HostRuntime) -> Result<(), Fail> {
     all_found(rt.alloc(), &page, &Count::new())
 }
 
-/// A library is opened once for each way in which it is spelled, and a module as often as it is wanted.
+/// A library is opened once, however it is spelled, and a module as often as it is wanted.
 fn opened(alloc: Global, page: &Page<'_>, count: &Count) -> Result<(), Fail> {
     let desk = desk_of(page, count);
     told(
         alloc,
         &desk,
-        "-lBOTH.LIB -lBOTH.LIB A.OBJ A.OBJ BOTH.LIB PACK.LIB BOTH.LIB PACK.LIB",
+        "-lBOTH.LIB ./BOTH.LIB -lBOTH.LIB A.OBJ A.OBJ BOTH.LIB PACK.LIB -l./PACK PACK.LIB",
     )?;
     same(
         str::from_utf8(&page.bytes(alloc)?)?,
-        "BOTH.LIB A.OBJ A.OBJ BOTH.LIB PACK.LIB ",
+        "BOTH.LIB A.OBJ A.OBJ PACK.LIB ./PACK ",
     )
 }
 

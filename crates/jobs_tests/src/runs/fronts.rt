@@ -141,10 +141,7 @@ pub(crate) const CONFIGURED: [(&[u8], &str); 19] = [
         "tlink F|2||doslink: /i isn't followed: segments without data take no bytes of the file~",
     ),
     (b"/i", "tlink /x /i- F|0||"),
-    (
-        b"/s",
-        "tlink F|0||doslink: warning: the map tells of no module's parts of segments~",
-    ),
+    (b"/s", "tlink F|0||"),
     (
         b"/x",
         "tlink F,TLINK.CFG|2||doslink: TLINK.CFG: it is read and would be written~",

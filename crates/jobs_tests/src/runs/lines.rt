@@ -3,7 +3,7 @@ use super::forms::EXE_OF_F;
 use super::modules::OFFERS;
 
 /// Response files, and a module in a folder.
-pub(crate) const LINE_FILES: [(&str, &[u8]); 15] = [
+pub(crate) const LINE_FILES: [(&str, &[u8]); 17] = [
     ("OBJ/UNO.OBJ", &OFFERS),
     ("NUMBERED.OBJ", &NUMBERED),
     ("LINK.RSP", b"A+\r\nF /NOI\r\nP.EXE\r\n"),
@@ -20,6 +20,8 @@ pub(crate) const LINE_FILES: [(&str, &[u8]); 15] = [
     ("DEEPER", b"@OBJS,P.EXE"),
     ("LINES2", b"F\nP.EXE\n/z\n"),
     ("IDLE", b"sort global\n"),
+    ("DEFINED.DEF", b" NAME A ; a program\r\n\r\nstacksize 0x800\r\n\x1Ax"),
+    ("AMISS.DEF", b"name A\nEXPORTS _f\n"),
     ("TWICE", b"@MANY @MANY @MANY @MANY @MANY @MANY @MANY @MANY"),
 ];
 
@@ -67,7 +69,7 @@ link /CP:0xFFFF F;|0||
 tlink /i F|2||doslink: /i isn't followed: segments without data take no bytes of the file~
 link /CO F /E;|0||doslink: warning: line 1, column 1: no data for debuggers is written~doslink: warning: line 1, column 7: the program isn't packed: it runs the same~
 tlink F /l|0||
-tlink F /s|0||doslink: warning: the map tells of no module's parts of segments~
+tlink F /s|0||
 tlink /x F /l /s|0||
 link F,P.COM;|0||doslink: warning: P.COM: an EXE file is written: /T makes a .COM file~
 link F,p.sys /CP:1;|0||doslink: warning: p.sys: an EXE file is written: doslink --form sys makes a device driver~
@@ -84,6 +86,18 @@ link F,con;|2||doslink: line 1, column 3: \"con\": a file is expected, and no de
 link F,NUL:;|2||doslink: line 1, column 3: \"NUL:\": a file is expected, and no device~
 tlink F,P,prn:|2||doslink: line 1, column 5: \"prn:\": a file is expected, and no device~
 link F,F.OBJ;|2||doslink: F.OBJ: it is read and would be written~
+link F,P,NUL,,DEFINED;|0||\
+doslink: warning: DEFINED.DEF: line 1, column 2: nothing of it is used~\
+doslink: warning: DEFINED.DEF: line 3, column 1: nothing of it is used~
+link F,P,NUL,,AMISS.DEF;|2||doslink: AMISS.DEF: line 2, column 1: \"EXPORTS\": \
+NAME, DESCRIPTION or STACKSIZE is expected: no other definition is followed~
+link F,P,NUL,,ABSENT /CO;|3||doslink: warning: line 1, column 17: no data for debuggers is written~\
+doslink: ABSENT.DEF: 1 Device at record 0: no such file~
+link F,DEFINED.DEF,NUL,,DEFINED;|2||\
+doslink: warning: DEFINED.DEF: line 1, column 2: nothing of it is used~\
+doslink: warning: DEFINED.DEF: line 3, column 1: nothing of it is used~\
+doslink: DEFINED.DEF: it is read and would be written~
+link F,P,NUL,,NUL;|0||
 ";
 
 /// Runs of lines, the path at which each writes, and all that it writes there.

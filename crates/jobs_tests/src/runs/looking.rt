@@ -1,12 +1,18 @@
 //! Modules that are looked up in folders, and what runs of them tell.
 use super::modules::OFFERS;
 
-/// A module that stands in two folders, where one of them is none.
-pub(crate) const LOOKED_FILES: [(&str, &[u8]); 4] = [
+/// A module that stands in two folders, where one of them is none; and files without an extension, which are no modules,
+/// beside modules with one.
+pub(crate) const LOOKED_FILES: [(&str, &[u8]); 9] = [
     ("OBJ/DUE.OBJ", &OFFERS),
     ("OLD/DUE.OBJ", b"no module"),
     ("OLD/F.OBJ", b"no module"),
     ("OLD/TRE.OBJ", &OFFERS),
+    ("NATIVE", b"\x7FELF"),
+    ("NATIVE.OBJ", &OFFERS),
+    ("ALONE", b"\x7FELF"),
+    ("BARE", &OFFERS),
+    ("BARE.OBJ", b"\x7FELF"),
 ];
 
 /// Runs of directives and of lines, in the form of the other tables.
@@ -35,6 +41,15 @@ tlink /x /jOLD A,,,OBJ/DUE.OBJ|0||
 tlink /x /jOBJ A,,,DUE.OBJ|3||doslink: DUE.OBJ: 1 Device at record 0: no such file~
 tlink /x /LOBJ DUE|3||doslink: DUE: 1 Device at record 0: no such file~
 link /jOBJ DUE;|2||doslink: line 1, column 1: \"/jOBJ\": unknown option~
+doslink NATIVE|0||
+wlink f NATIVE|0||
+tlink /x NATIVE|0||
+doslink ALONE|1||doslink: ALONE: 3 Truncated at record 0: this is an ELF file; nasm wants -f obj~
+doslink BARE|0||
+doslink BARE.OBJ|1||doslink: BARE.OBJ: 3 Truncated at record 0: this is an ELF file; nasm wants -f obj~
+link A+RUN.LIB;|0||doslink: warning: RUN.LIB: it is searched, and not linked whole~
+link A,,,RUN.LIB;|0||
+tlink /x A RUN.LIB|0||
 ";
 
 /// Runs of them, the path at which each writes, and the end of what it writes there.

@@ -42,14 +42,30 @@ wlink f CALLS.OBJ,F.OBJ a x=f ref x|0||
 wlink f CALLS.OBJ,F.OBJ a x=f op start=x|0||
 ";
 
-/// Files of directives: one that ends at a Ctrl-Z, ones with an extension, and one that has it and another that hasn't.
-pub(crate) const DIRECTIVE_FILES: [(&str, &[u8]); 6] = [
+/// Files of directives: one that ends at a Ctrl-Z, ones with an extension, one that has it and another that hasn't, and
+/// such as name others.
+pub(crate) const DIRECTIVE_FILES: [(&str, &[u8]); 21] = [
     ("STOPPED", b"file F.OBJ\nname A.EXE\n\x1Afill 'x\n"),
     ("LONGER.lnk", b"file F.OBJ\r\nname A.EXE\r\n\x1A"),
     ("EITHER", b"fill F.OBJ"),
     ("EITHER.lnk", b"file F.OBJ"),
     ("OBJ.lnk", b"file F.OBJ"),
     ("BADLY.lnk", b"file F.OBJ\nfill x"),
+    ("OUTER", b"# of these\r\n  @INNER\t\r\nname A.EXE\r\n"),
+    ("INNER.lnk", b"file F.OBJ\nsort global\n"),
+    ("AMISS", b"file F.OBJ\n\n@BADLY\n"),
+    ("LACKS", b"@NOWHERE"),
+    ("LOOP", b"file F.OBJ\n@LOOP\n"),
+    ("WITHIN", b"file F.OBJ name '@OUTER'"),
+    ("DEEP0", b"@DEEP1"),
+    ("DEEP1", b"@DEEP2"),
+    ("DEEP2", b"@DEEP3"),
+    ("DEEP3", b"@DEEP4"),
+    ("DEEP4", b"@DEEP5"),
+    ("DEEP5", b"@DEEP6"),
+    ("DEEP6", b"@DEEP7"),
+    ("DEEP7", b"@DEEP8"),
+    ("DEEP8", b"file F.OBJ"),
 ];
 
 /// Runs of them.
@@ -67,6 +83,15 @@ wlink @BADLY|2||doslink: BADLY: line 2: \"fill\": unknown directive~
 wlink @LONGER.x|3||doslink: LONGER.x: 1 Device at record 0: no such file~
 wlink @NEITHER|3||doslink: NEITHER: 1 Device at record 0: no such file~
 wlink @LONGER n LONGER.lnk|2||doslink: LONGER.lnk: it is read and would be written~
+wlink @OUTER|0||doslink: warning: INNER: line 2: the map is not sorted~
+wlink @OUTER n INNER.lnk|2||doslink: warning: INNER: line 2: the map is not sorted~\
+doslink: INNER.lnk: it is read and would be written~
+wlink @AMISS|2||doslink: BADLY: line 2: \"fill\": unknown directive~
+wlink f F.OBJ @LACKS|3||doslink: NOWHERE: 1 Device at record 0: no such file~
+wlink @LOOP|2||doslink: LOOP: response files name one another more than 8 deep~
+wlink @WITHIN|0||
+wlink @DEEP1|0||
+wlink @DEEP0|2||doslink: DEEP8: response files name one another more than 8 deep~
 ";
 
 /// Runs, and the end of the file that each writes.

@@ -16,19 +16,19 @@ fn files(rt: HostRuntime) -> Result<(), Fail> {
 98 28 01 01 02 01 01
 A0 01 00 01 C3
 8A C1 50 01 00 01
-= com: C3; sys: 00*256 C3; 07C0 from 100: C3
+= com: C3; start: C3; sys: 00*256 C3; 07C0 from 100: C3
 
 # one without a byte
 98 28 01 01 02 01 01
 8A C1 50 01 00 01
-= com:; sys:; 07C0 from 100000:
+= com:; start:; sys:; 07C0 from 100000:
 
 # its end is written to the last byte that data covers, also where that is 00
 98 28 10 01 02 01 01
 A0 01 00 01 B4 4C CD 21
 A0 01 08 01 00
 8A C1 50 01 00 01
-= com: B4 4C CD 21 00*5; sys: 00*256 B4 4C CD 21 00*5; 07C0 from 100: B4 4C CD 21 00*5
+= com: B4 4C CD 21 00*5; start: B4 4C CD 21 00*5; sys: 00*256 B4 4C CD 21 00*5; 07C0 from 100: B4 4C CD 21 00*5
 
 # many modules of one program: the second behind the first, at byte alignment
 98 28 03 01 02 01 01
@@ -40,19 +40,19 @@ A0 01 00 01 E9 00 00
 98 28 01 00 02 01 01
 90 00 01 01 78 00 00 00
 A0 01 00 00 C3
-= com: E9 00*2 C3; sys: 00*256 E9 00*2 C3; 07C0 from 100: E9 00*2 C3
+= com: E9 00*2 C3; start: E9 00*2 C3; sys: 00*256 E9 00*2 C3; 07C0 from 100: E9 00*2 C3
 
 # data that is repeated no time covers nothing below 100H
 98 28 01 01 02 01 01
 A2 01 00 00 00 00 00 00 01 41
 A0 01 00 01 C3
 8A C1 50 01 00 01
-= com: C3; sys: 00*256 C3; 07C0 from 100: C3
+= com: C3; start: C3; sys: 00*256 C3; 07C0 from 100: C3
 
 # a driver begins at its first byte, which nothing may cover
 98 28 04 00 02 01 01
 A0 01 01 00 FF FF
-= com: 70 OtherStart; sys: 00 FF*2; 07C0 from 1: FF*2",
+= com: 70 OtherStart; start: 00 FF*2; sys: 00 FF*2; 07C0 from 1: FF*2",
     )
 }
 
@@ -66,56 +66,56 @@ fn faults(rt: HostRuntime) -> Result<(), Fail> {
 A0 01 00 01 B8 00 00 C3
 9C C8 01 04 01 01
 8A C1 50 01 00 01
-= com: 68 Relocated; sys: 68 Relocated; 07C0 from 100: B8 C0 07 C3
+= com: 68 Relocated; start: 68 Relocated; sys: 68 Relocated; 07C0 from 100: B8 C0 07 C3
 
 # a stack segment
 98 28 01 01 02 01 01
 98 74 00 01 02 01 01
 A0 01 00 01 C3
 8A C1 50 01 00 01
-= com: 69 StackSegment; sys: 00*256 C3; 07C0 from 100: C3
+= com: 69 StackSegment; start: 69 StackSegment; sys: 00*256 C3; 07C0 from 100: C3
 
 # also one without a byte at the program's begin, of which SS and SP tell nothing
 98 74 00 00 01 01 01
 98 28 01 01 02 01 01
 A0 02 00 01 C3
 8A C1 50 02 00 01
-= com: 69 StackSegment; sys: 00*256 C3; 07C0 from 100: C3
+= com: 69 StackSegment; start: 69 StackSegment; sys: 00*256 C3; 07C0 from 100: C3
 
 # no start, one at 101H, one at the program's begin
 98 28 01 01 02 01 01
 A0 01 00 01 C3
-= com: 70 OtherStart; sys: 00*256 C3; 07C0 from 100: C3
+= com: 70 OtherStart; start: 00*256 C3; sys: 00*256 C3; 07C0 from 100: C3
 
 98 28 02 01 02 01 01
 A0 01 00 01 90 C3
 8A C1 50 01 01 01
-= com: 70 OtherStart; sys: 00*256 90 C3; 07C0 from 100: 90 C3
+= com: 70 OtherStart; start: 70 OtherStart; sys: 00*256 90 C3; 07C0 from 100: 90 C3
 
 98 28 01 00 02 01 01
 A0 01 00 00 C3
 8A C1 50 01 00 00
-= com: 70 OtherStart; sys: C3; 07C0 from 0: C3
+= com: 70 OtherStart; start: C3; sys: C3; 07C0 from 0: C3
 
 # the same address, 100H, in another frame
 98 28 00 01 02 01 01
 98 60 01 00 02 01 01
 A0 02 00 00 C3
 8A C1 50 02 00 00
-= com: 70 OtherStart; sys: 00*256 C3; 07C0 from 100: C3
+= com: 70 OtherStart; start: 70 OtherStart; sys: 00*256 C3; 07C0 from 100: C3
 
 # a byte 00 below 100H
 98 28 01 01 02 01 01
 A0 01 FF 00 00 C3
 8A C1 50 01 00 01
-= com: 71 DataBelow; sys: 00*256 C3; 07C0 from FF: 00 C3
+= com: 71 DataBelow; start: 71 DataBelow; sys: 00*256 C3; 07C0 from FF: 00 C3
 
 # also behind other data
 98 28 01 01 02 01 01
 A0 01 00 01 C3
 A0 01 10 00 41
 8A C1 50 01 00 01
-= com: 71 DataBelow; sys: 00*16 41 00*239 C3; 07C0 from 10: 41 00*239 C3",
+= com: 71 DataBelow; start: 71 DataBelow; sys: 00*16 41 00*239 C3; 07C0 from 10: 41 00*239 C3",
     )
 }
 
@@ -128,7 +128,7 @@ fn lengths(rt: HostRuntime) -> Result<(), Fail> {
 98 2A 00 00 02 01 01
 A2 01 00 01 00 FF 00 00 01 41
 8A C1 50 01 00 01
-= com: 41*65280; sys: 00*256 41*65280; 07C0 from 100: 41*65280
+= com: 41*65280; start: 41*65280; sys: 00*256 41*65280; 07C0 from 100: 41*65280
 
 # one more
 98 2A 00 00 02 01 01
@@ -136,14 +136,26 @@ A2 01 00 01 00 FF 00 00 01 41
 A2 01 00 01 00 FF 00 00 01 41
 A0 02 00 00 42
 8A C1 50 01 00 01
-= com: 72 TooLong; sys: 00*256 41*65280 42; 07C0 from 100: 41*65280 42
+= com: 72 TooLong; start: 72 TooLong; sys: 00*256 41*65280 42; 07C0 from 100: 41*65280 42
 
 # also one that no data covers
 98 2A 00 00 02 01 01
 98 20 01 00 01 01 01
 A0 01 00 01 C3
 8A C1 50 01 00 01
-= com: 72 TooLong; sys: 00*256 C3; 07C0 from 100: C3",
+= com: 72 TooLong; start: 72 TooLong; sys: 00*256 C3; 07C0 from 100: C3
+
+# 65,536 bytes of a program that starts at 0, and one more
+98 2A 00 00 02 01 01
+A0 01 FF FF C3
+8A C1 50 01 00 00
+= com: 70 OtherStart; start: 00*65535 C3; sys: 00*65535 C3; 07C0 from FFFF: C3
+
+98 2A 00 00 02 01 01
+98 20 01 00 01 01 01
+A0 01 FF FF C3
+8A C1 50 01 00 00
+= com: 70 OtherStart; start: 72 TooLong; sys: 00*65535 C3; 07C0 from FFFF: C3",
     )
 }
 
@@ -158,25 +170,25 @@ fn the_first_fault_is_named(rt: HostRuntime) -> Result<(), Fail> {
 A0 01 00 00 00 00
 9C C8 00 04 01 01
 8A C1 50 01 00 00
-= com: 68 Relocated; sys: 68 Relocated; 07C0 from 0: C0 07
+= com: 68 Relocated; start: 68 Relocated; sys: 68 Relocated; 07C0 from 0: C0 07
 
 98 2A 00 00 02 01 01
 98 74 01 00 01 01 01
 A0 01 00 00 00 00
 8A C1 50 01 00 00
-= com: 69 StackSegment; sys: 00*2; 07C0 from 0: 00*2
+= com: 69 StackSegment; start: 69 StackSegment; sys: 00*2; 07C0 from 0: 00*2
 
 98 2A 00 00 02 01 01
 98 20 01 00 01 01 01
 A0 01 00 00 00 00
 8A C1 50 01 00 00
-= com: 70 OtherStart; sys: 00*2; 07C0 from 0: 00*2
+= com: 70 OtherStart; start: 72 TooLong; sys: 00*2; 07C0 from 0: 00*2
 
 98 2A 00 00 02 01 01
 98 20 01 00 01 01 01
 A0 01 00 00 00 00
 8A C1 50 01 00 01
-= com: 71 DataBelow; sys: 00*2; 07C0 from 0: 00*2",
+= com: 71 DataBelow; start: 71 DataBelow; sys: 00*2; 07C0 from 0: 00*2",
     )
 }
 

@@ -2,7 +2,9 @@
 
 ghost use Rattle.omf_place.specs.Bounded.{IsBounded};
 
-use flat_file::{FlatFault, first_covered, write_bin, write_com, write_raw, write_sys};
+use flat_file::{
+    FlatFault, first_covered, write_bin, write_com, write_from_start, write_raw, write_sys,
+};
 use omf_frame::{IoFault, MemSink};
 use omf_image::{Program, build};
 use omf_module::Module;
@@ -65,6 +67,22 @@ fn push_com<A: Allocator + Copy>(
     push_answer(text, answer, sink.written())
 }
 
+fn push_from_start<A: Allocator + Copy>(
+    alloc: Global,
+    text: &mut String,
+    modules: &[Module<A>],
+    layout: &Layout<A>,
+    program: &Program<A>,
+) -> Result<(), AllocError>
+    requires { IsBounded modules.now layout.now }
+{
+    let mut bytes = room(alloc, ROOM)?;
+    let mut sink = MemSink::over(&mut bytes, PIECE);
+    let answer = write_from_start(modules, layout, program, &mut sink);
+    text.push_str("; start:")?;
+    push_answer(text, answer, sink.written())
+}
+
 fn push_sys<A: Allocator + Copy>(
     alloc: Global,
     text: &mut String,
@@ -93,7 +111,8 @@ pub fn push_bin<A: Allocator + Copy>(
     push_answer(text, answer, sink.written())
 }
 
-/// The files of a program in each form: .COM, .SYS, and .BIN at paragraph 07C0H from the first byte that data covers.
+/// The files of a program in each form: .COM, from the start on, .SYS, and .BIN at paragraph 07C0H from the first byte
+/// that data covers.
 fn forms<A: Allocator + Copy>(
     alloc: Global,
     modules: &[Module<A>],
@@ -104,6 +123,7 @@ fn forms<A: Allocator + Copy>(
 {
     let mut text = String::new(alloc);
     push_com(alloc, &mut text, modules, layout, program)?;
+    push_from_start(alloc, &mut text, modules, layout, program)?;
     push_sys(alloc, &mut text, program)?;
     let from = first_covered(modules, layout);
     push_bin(alloc, &mut text, program, (0x07C0, from), ROOM)?;

@@ -2,8 +2,8 @@ use Rattle.std.proofs.Common.{◌≡◌, ◌++◌, ◌-◌, ◌∙◌, OnOk, [],
 use Rattle.std.specs.List.{flat_map}
 use Rattle.doslink_telling.specs.Missing.{rest_text, told_count}
 use Rattle.doslink_telling.proofs.Texts.{then-ok}
-use Rattle.doslink_words.specs.Tokens.{texts}
 use Rattle.doslink_jobs.specs.inside.Idle.{idle_line}
+use Rattle.doslink_jobs.specs.inside.Spoken.{said_lines}
 use Rattle.doslink_jobs.specs.inside.Warnings.{told_lines}
 use Rattle.doslink_jobs.proofs.directives.push_warnings.Goals as goal
 
@@ -17,7 +17,7 @@ returns c =
     let all = c.as_slice-warnings.result.now in
     let n = c.told_count-told.result in
     let told = told_count (length all) tells_all in
-    let line = idle_line (texts c.args.spoken.now.words.now) c.args.spoken.now.counts.items in
+    let line = idle_line (said_lines c.args.spoken.now.lines.items) in
     let same : n ≡ told = c.told_count-told.ensures.told in
     let first : s1 ≡ s0 ++ flat_map line (take told all) =
     c.in_ok-push_told.ensures ∙ ap (λ k. s0 ++ flat_map line (take k all)) same in

@@ -2,7 +2,7 @@ use Rattle.std.proofs.Common.{ap, is_some, not, ◌∙◌}
 use Rattle.std.specs.declared.alloc.Global.{Global}
 use Rattle.doslink_words.specs.Tokens.{texts}
 use Rattle.doslink_files.specs.Written.{StandsAt}
-use Rattle.doslink_jobs.specs.Runs.{RunsMade, RunsWhole}
+use Rattle.doslink_jobs.specs.Runs.{RunsDefined, RunsMade}
 use Rattle.doslink_jobs.proofs.Doing.{EndsBy-weaker}
 use Rattle.doslink_jobs.proofs.lines.run_made.Goals as goal
 
@@ -12,5 +12,5 @@ returns-in-None g c =
     let Writes = StandsAt (g.W.World.blank c.args.world) (g.W.World.Puts c.args.world) in
     let followed = c.unfollowed.ensures ∙ ap (λ why. not (is_some why)) c.in-None.is in
     EndsBy-weaker Global told Writes (texts c.args.besides.now.folders.now)
-    (λ does helps. RunsWhole told does helps c.args.made.job) (λ does helps. RunsMade told does helps c.args.made) _
-    c.run_named.result (λ does helps runs. (followed, runs)) c.run_named.ensures
+    (λ does helps. RunsDefined told does helps c.args.made) (λ does helps. RunsMade told does helps c.args.made) _
+    c.run_defined.result (λ does helps runs. (followed, runs)) c.run_defined.ensures

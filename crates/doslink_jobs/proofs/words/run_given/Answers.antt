@@ -3,6 +3,7 @@ use Rattle.std.specs.declared.alloc.Global.{Global}
 use Rattle.doslink_words.specs.Tokens.{texts}
 use Rattle.doslink_files.specs.Written.{StandsAt}
 use Rattle.doslink_jobs.specs.Runs.{RunsGiven, RunsText}
+use Rattle.doslink_jobs.specs.inside.Spoken.{said_lines}
 use Rattle.doslink_jobs.proofs.Doing.{EndsBy-stopped, EndsBy-weaker}
 use Rattle.doslink_jobs.proofs.words.run_given.Goals as goal
 
@@ -13,7 +14,7 @@ returns-in-Ok g c =
     let text = string_bytes c.in-Ok.spoken.text in
     EndsBy-weaker Global told Writes (texts c.args.folders.now) (λ does helps. RunsText told does helps text)
     (λ does helps. RunsGiven told does helps (texts c.args.words.now)) _ c.run_spoken.result
-    (λ does helps runs. (text, c.in-Ok.ensures.text, runs)) c.run_spoken.ensures
+    (λ does helps runs. (said_lines c.in-Ok.spoken.lines.items, text, c.in-Ok.ensures.text, runs)) c.run_spoken.ensures
 
 pub returns : goal.returns
 returns g c =

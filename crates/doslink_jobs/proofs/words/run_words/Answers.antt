@@ -5,7 +5,7 @@ use Rattle.doslink_files.specs.Written.{StandsAt}
 use Rattle.doslink_jobs.specs.Fronts.{IsFront}
 use Rattle.doslink_jobs.specs.Runs.{Runs, RunsSpoken, as_asked, language_named}
 use Rattle.doslink_jobs.proofs.Doing.{EndsBy-weaker}
-use Rattle.doslink_jobs.proofs.Spoken.{runs-named, runs-plain}
+use Rattle.doslink_jobs.proofs.Asking.{runs-named, runs-plain}
 use Rattle.doslink_jobs.proofs.words.run_words.Goals as goal
 
 pub returns-in_default : goal.returns-in_default
