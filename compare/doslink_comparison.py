@@ -13,6 +13,8 @@ from model.places import PlacedFiles
 LINK, DIRECTIVES = "doslink", "wlink"
 # by what it is called to take lines of other linkers, and the words that say the same
 LINES = ("link", "tlink")
+# one seed in so many has one job more
+MORE_EVERY = 3
 # of a seed that is kept
 WORDS = "words"
 no_counts, lines_of_limits = comparison.no_counts, comparison.lines_of_limits
@@ -42,6 +44,9 @@ class Comparison(comparison.Comparison):
         if self.has_lines:
             chance = random.Random(f"{seed} by a line")
             self.compare_case(chance, jobs.case(chance, seed, has_lines=True))
+        if self.has_lines and seed % MORE_EVERY == 0:
+            chance = random.Random(f"{seed} once more")
+            self.compare_case(chance, jobs.more_case(chance, seed // MORE_EVERY, self.has_words))
 
     def compare_case(self, chance, case):
         """One job, often with an older OUT."""

@@ -514,15 +514,18 @@ LINES = [
         "inputs": given(["a"]), "maps_to_out": True, "map_has_lines": True}),
     ("no parts of segments", "tlink", ["/s", "a"], {
         "inputs": given(["a"]), "maps_to_out": True,
-        "map_lacks": ["tells of no module's parts of segments"]}),
+        "map_has_details": True}),
     ("paths", "tlink", ["/x", "/home/x/a.obj", "./b/x", "c/x"], {"inputs": given(["/home/x/a.obj", "./b/x", "c"])}),
     ("an unknown option", "link", ["@wrong"], 'line 3, column 4: "/z": unknown option'),
     ("no object", "link", [",p;"], "an object is expected"),
     ("a second name", "link", ["a,b", "c;"], 'line 1, column 5: "c": a comma is expected: the field has its name'),
     ("something behind the end", "link", ["a;b"], 'line 1, column 3: "b": nothing is expected behind `;`'),
-    ("an octal number", "link", ["a", "/ST:08;"], 'line 1, column 3: "/ST:08": a number from 1 to 65536 is expected behind `:`'),
-    ("a number that isn't there", "link", ["a", "/CP;"], 'line 1, column 3: "/CP": a number from 0 to 65535 is expected behind `:`'),
-    ("a name of several", "link", ["a", "/PA;"], 'line 1, column 3: "/PA": more of the option\'s name is expected: it is short for several'),
+    ("an octal number", "link", ["a", "/ST:08;"],
+     'line 1, column 3: "/ST:08": a number from 1 to 65536 is expected behind `:`'),
+    ("a number that isn't there", "link", ["a", "/CP;"],
+     'line 1, column 3: "/CP": a number from 0 to 65535 is expected behind `:`'),
+    ("a name of several", "link", ["a", "/PA;"],
+     'line 1, column 3: "/PA": more of the option\'s name is expected: it is short for several'),
     ("no front of a name", "link", ["a", "/LX;"], 'line 1, column 3: "/LX": unknown option'),
     ("the front of a name alone", "link", ["a", "/L;"], {
         "inputs": given(["a"]), "maps_to_out": True, "map_has_lines": True}),
@@ -616,6 +619,13 @@ def far_module(segment, *made):
     return framed([(0x80, "0146"), FAR_NAMES, (0x98, segment), *made, (0x8A, "00")])
 
 
+def reaching_module(fixups):
+    """A module that declares the far variable `far`, and has these fix-ups of its code, which is in DGROUP."""
+    return framed([
+        (0x80, "0152"), (0x96, "00 04434F4445 06444752 4F5550"), (0x98, "28 0500 02 01 01"), (0x9A, "03 FF01"),
+        (0xB0, "03666172 00 61 01 02"), (0xA0, "01 0000 B800000000"), (0x9C, fixups), (0x8A, "00")])
+
+
 # the names FAR_DATA, TBL, X and G, and a fix-up by which data has its segment's frame
 FAR_NAMES = (0x96, "084641525F44415441 0354424C 0158 0147")
 OWN_FRAME = ((0xA0, "01 0000 0000"), (0x9C, "C800 54 01"))
@@ -676,10 +686,27 @@ REACHED = [
      "00A09C0500C4015601438A02000074"),
 ]
 
+# fix-ups of five bytes of code by a module that declares `far`, and whether they reach it by its offset alone
+REACHING = [
+    ("by a low byte", "C001 56 01", True),
+    ("by a low byte, and a base", "C001 56 01 C803 56 01", False),
+    ("by a base of the external's frame", "C401 56 01 C803 26 01 01", False),
+    ("by a base of a segment's frame", "C401 56 01 C803 06 01 01", True),
+    ("by a base of a group's frame", "C401 56 01 C803 16 01 01", True),
+    ("by a base of the location's frame", "C401 56 01 C803 46 01", True)]
+
 # directives, and what is told of them; a file of them that is named too often
 SPOKEN_FILES = {
     **FILES, "idle": b"sort global", "f/JOB.lnk": b"name F\\P", "twice.OBJ": FILES["absolute.obj"],
-    "Twice.obj": FILES["absolute.obj"]}
+    "Twice.obj": FILES["absolute.obj"], "outer.lnk": b"# of these\n @Inner\t\r\nname P\n",
+    "inner": b"file absolute.obj\nsort global\n", "loop": b"@loop", "lacks": b"@nowhere",
+    **{f"deep{each}": f"@deep{each + 1}\n".encode() for each in range(8)}, "deep8": b"",
+    "D:/x.OBJ": FILES["absolute.obj"],
+    "plain": b"\x7FELF", "plain.OBJ": FILES["absolute.obj"], "alone": b"\x7FELF", "bare": FILES["absolute.obj"],
+    "bare.OBJ": b"\x7FELF", "L": b"\x7FELF", "L.lib": LIBRARY}
+# files of definitions
+DEFINED_FILES = {
+    "some.DEF": b" NAME P ; a program\r\n\r\nstacksize 0x800\r\n\x1Ax", "wrong.def": b"name p\nEXPORTS _f\n"}
 SPOKEN = [
     (["file", "absolute.obj", "name", "p.com"],
      "doslink: warning: p.com: an EXE file is written: format dos com makes a .COM file\n"),
@@ -707,6 +734,25 @@ SPOKEN = [
     (["file", "none.obj", *65 * ["path", "f"]], "doslink: more than 64 folders are to be searched\n"),
     (["file", "absolute.obj", "option", "quiet", *200 * ["@idle"], "@more"],
      "doslink: more: a line has at most 200 response files\n"),
+    (["file", "absolute.obj", "option", "quiet", *199 * ["@idle"], "@outer"],
+     "doslink: Inner: a line has at most 200 response files\n"),
+    # files that name others
+    (["@outer"], "doslink: warning: Inner: line 2: the map is not sorted\n"),
+    (["file", "absolute.obj", "@deep1"], ""),
+    (["file", "absolute.obj", "@deep0"], "doslink: deep8: response files name one another more than 8 deep\n"),
+    (["file", "absolute.obj", "@loop"], "doslink: loop: response files name one another more than 8 deep\n"),
+    (["file", "absolute.obj", "@lacks"], "doslink: nowhere: 1 Device at record 0: no such file\n"),
+    (["file", "absolute.obj", "name '@outer'"], ""),
+    # drives, and files whose names have no extension
+    (["file", "C:\\LIB\\M.OBJ"], "doslink: C:\\LIB\\M.OBJ: 1 Device at record 0: there is no such drive\n"),
+    (["file", "absolute.obj", "name", "c:p"], "doslink: c:p.exe: 40 Device: there is no such drive\n"),
+    (["@c:x"], "doslink: c:x: 1 Device at record 0: there is no such drive\n"),
+    (["file", "d:\\X", "name", "D:p"], ""),
+    (["file", "plain"], ""),
+    (["file", "bare"], ""),
+    (["file", "alone"],
+     "doslink: alone: 3 Truncated at record 0: this is an ELF file; nasm wants -f obj\n"),
+    (["file", "m.obj", "library", "l"], ""),
 ]
 # what a program reads by its name
 CALLED_SO = [
@@ -715,8 +761,24 @@ CALLED_SO = [
 # lines that write an EXE file by the name of another form, and the folder of LIB, which is LINK's alone
 NAMED_BY_LINES = [
     ("link", ["absolute.obj,p.com;"], "doslink: warning: p.com: an EXE file is written: /T makes a .COM file\n"),
-    ("tlink", ["/x", "absolute.obj,p.Bin"], "doslink: warning: p.Bin: an EXE file is written: doslink --form bin makes a raw image\n"),
+    ("tlink", ["/x", "absolute.obj,p.Bin"],
+     "doslink: warning: p.Bin: an EXE file is written: doslink --form bin makes a raw image\n"),
     ("tlink", ["/x", "absolute.obj,com"], ""),
+    ("link", ["absolute.obj,p,,,some;"], "doslink: warning: some.DEF: line 1, column 2: nothing of it is used\n"
+     "doslink: warning: some.DEF: line 3, column 1: nothing of it is used\n"),
+    ("tlink", ["/x", "absolute.obj,p,,,SOME.def"],
+     "doslink: warning: SOME.def: line 1, column 2: nothing of it is used\n"
+     "doslink: warning: SOME.def: line 3, column 1: nothing of it is used\n"),
+    ("link", ["absolute.obj,p,,,wrong.def;"],
+     'doslink: wrong.def: line 2, column 1: "EXPORTS": NAME, DESCRIPTION or STACKSIZE is expected: no other definition '
+     "is followed\n"),
+    ("link", ["absolute.obj,some.def,,,some;"], "doslink: warning: some.DEF: line 1, column 2: nothing of it is used\n"
+     "doslink: warning: some.DEF: line 3, column 1: nothing of it is used\n"
+     "doslink: some.def: it is read and would be written\n"),
+    ("link", ["absolute.obj,p,,,nowhere;"], "doslink: nowhere.DEF: 1 Device at record 0: no such file\n"),
+    ("link", ["absolute.obj,p,,,NUL;"], ""),
+    ("link", ["absolute.obj+f\\X.lib,p;"], "doslink: warning: f\\X.lib: it is searched, and not linked whole\n"),
+    ("tlink", ["/x", "absolute.obj f\\X.lib,p"], ""), ("link", ["absolute.obj,p,,f\\X.lib;"], ""),
     ("link", ["M,p,,l;"], ""), ("tlink", ["/x", "M,p,,l;"], "doslink: l: 1 Device at record 0: no such file\n"),
     ("tlink", ["/x", "/LG", "M,p,,l;"], ""),
 ]
@@ -1685,16 +1747,18 @@ def check_links():
         assert answer.output == told.encode(), title
     answer = linking.link(Job(given(["absolute.obj"]), "out", is_quiet=True), FILES)
     assert answer.error.decode().splitlines() == LACKS, answer.error
-    for title, content in REACHED:
-        answer = linking.link(Job(given(["far.obj"]), "out"), {"far.obj": bytes.fromhex(content)})
-        wanted = f'doslink: warning: "far" of far.obj {linking.IS_REACHED}\n'
+    reached = [(title, bytes.fromhex(content), True) for title, content in REACHED]
+    reached += [(title, reaching_module(fixups), is_told) for title, fixups, is_told in REACHING]
+    for title, content, is_told in reached:
+        answer = linking.link(Job(given(["far.obj"]), "out"), {"far.obj": content})
+        wanted = f'doslink: warning: "far" of far.obj {linking.IS_REACHED}\n' if is_told else ""
         assert without_lacks(answer.error.decode()) == wanted, title
     for words, wanted in SPOKEN:
         files = PlacedFiles(SPOKEN_FILES)
         answer = linking.link_by_directives(words, files, can_be_made=files.can_be_made)
         assert without_lacks(answer.error.decode()) == wanted, words
     for language, words, wanted in NAMED_BY_LINES:
-        answer = linking.link_by_line(language, words, PlacedFiles(FILES), ["G"])
+        answer = linking.link_by_line(language, words, PlacedFiles({**FILES, **DEFINED_FILES}), ["G"])
         assert without_lacks(answer.error.decode()) == wanted, words
     for called, wanted in CALLED_SO:
         assert linking.language_of(called) == wanted, called

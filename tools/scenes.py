@@ -250,6 +250,8 @@ SHOWN = {
                 "A.OBJ": EMPTY, "HELLO.LNK": b"file A.OBJ\nname A.EXE\nformat dos\nsort global\n"}))),
         "wlink system dos name x file main,util,'\"my own.obj\"' option quiet": Run({
             "main.obj": START_UP, "util.obj": HELLO, "my own.obj": PRINTF}),
+        "NAME        MAIN": Written("main.def", "doslink --as link 'main+hello+printf,prog.exe,nul,,main;'", {
+            "main.obj": START_UP, "hello.obj": HELLO, "printf.obj": PRINTF}),
         "option quiet": Written("HELLO.LNK", "wlink @HELLO.LNK", {
             "rtl/large/prt0l.o": START_UP, "hello.a": archive(member(b"hello.o/", HELLO)),
             "rtl/large/system.a": archive(member(b"printf.o/", PRINTF))}),

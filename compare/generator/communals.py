@@ -35,10 +35,18 @@ LIMITS = [
     [(32_767, 65_536), (0, 1)], [(32_768, 65_536), (13_108, 5)], [(1, 1), (2, 2), 1, (3, 3)],
     [(0x8000, 2), (0x8000, 2), (0x8001, 2)]]
 
-# fix-ups of four bytes: their places there, and their locations
+# frames: the variable's own, that of the first variable, of DGROUP, of the data's segment, and of the location
+OWN, FIRST = Direct(Method.TARGET), Direct(Method.EXTERNAL, 1)
+OTHER_FRAMES = [Direct(Method.GROUP, 1), Direct(Method.SEGMENT, 1), Direct(Method.LOCATION)]
+# fix-ups of four bytes: their places there, their locations, and their frames
 LOCATIONS = [
-    [(0, Location.POINTER)], [(0, Location.POINTER)], [(0, Location.OFFSET)], [(2, Location.BASE)],
-    [(0, Location.OFFSET), (2, Location.BASE)], [(0, Location.LOADER_OFFSET)]]
+    [(0, Location.POINTER, OWN)], [(0, Location.POINTER, OWN)], [(0, Location.OFFSET, OWN)], [(2, Location.BASE, OWN)],
+    [(0, Location.OFFSET, OWN), (2, Location.BASE, OWN)], [(0, Location.LOADER_OFFSET, OWN)]]
+# those that have a low byte, or a frame that isn't said as the target's
+REACHING = [
+    [(0, Location.LOW_BYTE, OWN)],
+    *[[(0, Location.LOW_BYTE, OWN), (2, Location.BASE, frame)] for frame in (OWN, FIRST)],
+    *[[(0, Location.OFFSET, OWN), (2, Location.BASE, frame)] for frame in (FIRST, *OTHER_FRAMES)]]
 
 
 @dataclass
@@ -92,7 +100,7 @@ def usual_entry(random, name, index=b"\0"):
 
 
 def module_of_communals(random, title, variables, locations):
-    """A module that declares variables with these names, and has the address of each, or a part.
+    """A module that declares variables with these names, and has the address of each, or a part, in some frame.
 
     It has `_BSS` too, which at times is of DGROUP or of another group, and at times the offset of a
     local public that is called like the first variable.
@@ -102,8 +110,8 @@ def module_of_communals(random, title, variables, locations):
     groups = random.choice([[[1], []], [[1, 2], []], [[1], [2]]])
     itself = [
         Fixup(True, location, 4 * number + place, Reference(
-            Direct(Method.TARGET), Direct(Method.EXTERNAL, number + 1), None))
-        for number in range(len(variables)) for place, location in locations]
+            frame, Direct(Method.EXTERNAL, number + 1), None))
+        for number in range(len(variables)) for place, location, frame in locations]
     length, local = 4 * len(variables), []
     if variables and random.random() < 0.2:
         name, length = variables[0][0], length + 4

@@ -5,11 +5,12 @@ from itertools import groupby
 from typing import Optional
 
 from generator.communals import (
-    LOCATIONS, NO_NUMBERS, Declared, at_limit, module_of_communals, module_of_local_variables,
+    LOCATIONS, NO_NUMBERS, OWN, REACHING, Declared, at_limit, module_of_communals, module_of_local_variables,
     module_of_no_number)
 from generator.lines import (
-    BEHIND_TEXT, CALLS, CONFIGURATIONS, LINES_OF_TLINK, LINK, MARKED_LINES, MARKED_LINES_OF_TLINK, ODD_CONFIGURATIONS,
-    ODD_FRONTS, ODD_LINES, OTHER_OPTIONS, TLINK, WRONG_WORDS, LineSpeller, by_dos, in_another_case)
+    BEHIND_TEXT, CALLS, CONFIGURATIONS, DEFINITIONS, LINES_OF_DEFINITIONS, LINES_OF_TLINK, LINK, MARKED_LINES,
+    MARKED_LINES_OF_TLINK, MORE_LINES_OF_LINK, MORE_LINES_OF_TLINK, ODD_CONFIGURATIONS, ODD_FRONTS, ODD_LINES,
+    OTHER_OPTIONS, TLINK, WRONG_WORDS, LineSpeller, by_dos, in_another_case)
 from generator.libraries import (
     ARCHIVE, SMALL_PAGES, SYMBOL_TABLES, archive, archive_of_symbols, archive_with_symbols, damaged,
     foreign, library, with_header)
@@ -195,14 +196,21 @@ ENDED_WORDS = [
     ["file 0.obj output raw offset"], ["file 0.obj output raw offset ="], ["file 0.obj", "order"], ["file 0.obj sort"],
     ["file 0.obj debug"], ["file 0.obj disable"], ["file 0.obj alias x ="], ["file {0.obj"], ["file 0.obj }"],
     ["file 0.obj name o.exe op dos, nod"], ["file 0.obj name o.exe option nodefaultlibs"], ["file 0.obj option map"]]
-# files of directives, of which some are called otherwise than a word says, or have a Ctrl-Z
+# files of directives, of which some are called otherwise than a word says, have a Ctrl-Z, or name others; and such as
+# are no modules, beside these
 SPOKEN_FILES = {
     "ending.lnk": b"file 0.obj name o.exe\n", "both": b"file 0.obj name o.exe\n",
     "both.lnk": b"file 0.obj name p.exe\n",
     "dot.x.lnk": b"file 0.obj name o.exe\n", "a.b/ending.lnk": b"file 0.obj name o.exe\n", "folder/x": b"name p",
     "folder.lnk": b"file 0.obj name o.exe\n", "ended": b"file 0.obj name o.exe\n\x1Aname p.exe\n\x1A",
     "ended.lnk": b"", "cut": b"file 0.obj\x1A 'x\xE9", "none": b"\x1Aname p.exe",
-    "crlf": b"file 0.obj\r\nname 'o\r\n"}
+    "crlf": b"file 0.obj\r\nname 'o\r\n", "outer": b"# first\r\n \t@inner \r\nname o.exe\n",
+    "inner.lnk": b"file 0.obj\nsort global\n", "amiss": b"\n@inner\n@wrong\n", "wrong": b"\nfill x\n",
+    "loop": b"sort global\n@loop\n", "lacks": b"name o.exe\n@nowhere\n", "quoted": b"file 0.obj name '@inner'\n",
+    "pair": b"@inner\n@inner", "tail": b"file 0.obj name o.exe @inner",
+    **{f"deep{each}": b"@deep%d" % (each + 1) for each in range(9)}, "deep9": b"name o.exe",
+    "com": b"\x7FELF", "only": b"\x7FELF", "only.x": b"\x7FELF",
+    "more/only.x": module_of_publics([b"only"])}
 # words that name these, or a program without an extension
 SPOKEN_WORDS = [
     ["@ending"], ["@both"], ["@dot.x"], ["@a.b/ending"], ["@ended"], ["@cut", "name o.exe"], ["@none", "@ending"],
@@ -213,7 +221,11 @@ SPOKEN_WORDS = [
     ["file com name -"], ["file com name sub/"], ["file com name sub/ format dos com"], ["file obj/com.x name 'sub/'"],
     ["library com name sub/"], ["file com name - option map"], ["file com name sub\\"],
     ["file com name o.x"], ["file com name o."], ["file 0.obj", "system"], ["file 0.obj", "format"],
-    ["file 0.obj", "name"], ["file com", "name o.com"], ["@none", "@cut", "name o"]]
+    ["file 0.obj", "name"], ["file com", "name o.com"], ["@none", "@cut", "name o"],
+    ["@outer"], ["@outer", "name inner.lnk"], ["@amiss"], ["file 0.obj", "@loop"], ["@lacks"], ["@quoted"], ["@pair"],
+    ["@tail"], [" @inner", "name o"], ["name o\n@inner\t"], ["@deep0", "file 0.obj"], ["@deep1", "file 0.obj"],
+    ["@deep2", "file 0.obj name p"], ["file only name o"], ["file only.x name o"],
+    ["file only.x path more name o"], ["file 0.obj library only name o"]]
 # words that name a program as one of another form is, which is told where no form is said
 MISNAMED_WORDS = [
     ["file com name o.com"], ["file com name P.COM option quiet, map, verbose"], ["file com name p.sys sort global"],
@@ -227,6 +239,8 @@ MISNAMED_WORDS = [
     ["file lacks library nowhere name o.IMG op quiet"]]
 # files of directives, and words that name files by names of DOS, beside those of a line that is wrong, or seems so
 NAMES_OF_DOS = {
+    "E:/x.obj": module_of_publics([b"drive"]), "f:x.obj": module_of_publics([b"name"]),
+    "wants.obj": module_of_links([b"x"], [], b"Z:\\LIB\\C"),
     "Job.Lnk": b"file 0.OBJ name O.exe\n", "twice.lnk": b"file 0.obj\n", "Twice.lnk": b"file 0.obj name p.exe\n",
     "sub/Job": b"file Sub\\A\nname o.exe\n"}
 BY_DOS_WORDS = [
@@ -244,11 +258,20 @@ BY_DOS_WORDS = [
     ["file 0 name Sub\\"], ["file Sub name o"], ["file 0 name New\\prog"], ["file 'Sub\\\u00c9' name o"],
     ["file 0 name out option map=OUT.EXE"], ["file 0 name o library SUB\\L"], ["file 0 name o", "libfile a path sub"],
     ["file mixed\\X name o"], ["file MIXED name o"],
+    ["file C:\\0 name o"], ["file 0 name c:o"], ["file 0 name o option map=D:\\list"], ["@c:job"],
+    ["file 0", "@Z:\\job"],
+    ["file 0 name o library Z:L"], ["file 0 name o library L libpath C:\\LIB"], ["file 0 path c:\\obj name o"],
+    ["file nowhere path c:\\obj name o"],
+    ["file E:\\x name o"], ["file e:\\X name o"], ["file 0 name e:\\o"], ["file x path e:\\ name o"],
+    ["file f:x.obj name o"], ["file f:x name o"], ["file F:x.obj name o"], ["file wants name o"],
+    ["file wants,0 name o"],
     ["file 0 name o", "library Lib\\libc"]]
 # one job in so many is made of each of these
 MISNAMED_EVERY, BY_DOS_EVERY = 50, 50
 # and one has stacks of these lengths, and asks for none
 EMPTY_EVERY, EMPTY_STACKS = 50, [[0], [0, 0], [0, 1], [1, 0], [0, 0, 0]]
+# one has far variables, and fix-ups that have their offsets, and their frames or others
+REACHED_EVERY = 50
 # lines that ask for something else than the rest, or say it once more
 OTHER_LINES = [
     "name two.exe", "option nocaseignore", "option noignorecase", "option nocaseexact",
@@ -805,10 +828,14 @@ class JobMaker:
         return self.by_directives()
 
     def many_reached(self, count):
+        return self.make_reached([(0, Location.OFFSET, OWN)], count)
+
+    def make_reached(self, locations, count=3):
+        """A module with so many far variables, and fix-ups of each at these locations."""
         variables = [(b"v%d" % each, Declared(True, 1)) for each in range(count)]
-        self.files["0.obj"] = module_of_communals(
-            self.random, b"FAR", variables, [(0, Location.OFFSET)])
+        self.files["0.obj"] = module_of_communals(self.random, b"FAR", variables, locations)
         self.give("0.obj")
+        self.folders = []
         return self.asked()
 
     def make_start(self, kind, count, total):
@@ -892,7 +919,8 @@ class JobMaker:
     def make_by_dos(self, *words):
         """Words of directives that name files as DOS does, beside files that are called otherwise by case."""
         if not self.tells_cases:
-            return self.make_spoken(*words)
+            # there a drive may be one
+            return self.make_spoken(*words) if not any(":" in word for word in words) else self.make_spoken("@outer")
         self.files["0.obj"], self.folders = module_of_publics([b"x"]), [self.random.choice(["Two", "TWO", "sub"])]
         for path in BESIDE:
             self.files[path] = module_of_publics([path.encode()])
@@ -1182,6 +1210,10 @@ class JobMaker:
             self.files[path] = module_of_publics([path.encode()])
         self.files.update(OLDER)
         self.files["com.obj"], self.folders = module_of_form(0, 3, 0x100, ()), []
+        self.files["flat.obj"], self.files["odd.obj"] = (module_of_form(0x100, 3, start, ()) for start in [0, 2])
+        self.files["stacked.obj"] = module_of_form(0x100, 3, 0, ("stack",))
+        self.files["wordy.obj"] = module_of_form(0x100, 3, 0, ("word",))
+        self.files[self.random.choice(["defs.DEF", "defs.def"])] = self.random.choice(DEFINITIONS)
         speller = LineSpeller(self.random, language, self.files)
         name = self.random.choice(["0.obj", "0", '"0.obj"', "0.OBJ"])
         line = line.replace("OBJECT", name)
@@ -1586,6 +1618,7 @@ MADE = [
     (MISNAMED_EVERY, 30, in_turn(JobMaker.make_misnamed, [tuple(words) for words in MISNAMED_WORDS])),
     (BY_DOS_EVERY, 12, in_turn(JobMaker.make_by_dos, [tuple(words) for words in BY_DOS_WORDS])),
     (EMPTY_EVERY, 35, in_turn(JobMaker.make_empty_stacks, [(lengths,) for lengths in EMPTY_STACKS])),
+    (REACHED_EVERY, 32, in_turn(JobMaker.make_reached, [(locations,) for locations in REACHING])),
 ]
 
 
@@ -1627,6 +1660,22 @@ MADE_BY_LINES = [
     (20, 15, in_turn(JobMaker.make_map, [
         ("link",), (LINK, "/LI"), ("tlink",), (TLINK, "/l"), ("omf",), (LINK, "/LINENUM"), (TLINK, "/l/m")])),
 ]
+
+# what takes turns of its own: lines, and words of directives that all others take turns with
+MORE_LINES = [
+    *[(JobMaker.make_odd_line, line, TLINK) for line in MORE_LINES_OF_TLINK],
+    *[(JobMaker.make_odd_line, line, LINK) for line in MORE_LINES_OF_LINK],
+    *[(JobMaker.make_odd_line, line) for line in LINES_OF_DEFINITIONS],
+    *[(JobMaker.make_map, TLINK, options) for options in ("/s", "/s/l", "/l/s", "/s/m", "/s", "/s")]]
+MORE_WORDS = [
+    *[(JobMaker.make_spoken, *words) for words in SPOKEN_WORDS],
+    *[(JobMaker.make_by_dos, *words) for words in BY_DOS_WORDS]]
+
+
+def more_case(random, turn, has_words=True):
+    """A job by one more line of LINK or TLINK, or by one more list of directives, and its files."""
+    cases = [*MORE_LINES, *(MORE_WORDS if has_words else [])]
+    return in_turn(made, cases)(JobMaker(random, True, True), turn)
 
 
 def case(random, number=1, has_lines=False, tells_cases=True):

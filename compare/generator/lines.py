@@ -76,6 +76,41 @@ LINES_OF_TLINK = [
     "OBJECT,nowhere/Table", "OBJECT /Lc:\\tc\\lib/c", "OBJECT -jc:\\obj/Tdc", "OBJECT /Lsub\\more/v,,,x",
     "OBJECT /Lsub:/v,,,x", "OBJECT /Lx/c\\d,,,y", "OBJECT,,, /Lx;c:\\tc/m l", "OBJECT -La/j", "OBJECT /c/La/m",
     "OBJECT /Lc:\\tc\\lib/c;", "OBJECT /jx/Lc:\\tc,,,l", "OBJECT /Lx/q,,,l", "OBJECT /Lx,,,l"]
+# lines of TLINK with folders in quotes, and with programs that begin at their start, which have another extension than
+# .COM
+MORE_LINES_OF_TLINK = [
+    'OBJECT /L"lib",,,LIBC', 'OBJECT /L"my lib;lib",,,libm', 'OBJECT -L"lib"/m,,,LIBC', 'a /j"sub"/c',
+    'a /j"my obj;sub"',
+    'OBJECT /L"li"b,,,LIBC', 'OBJECT /Lli"b",,,LIBC', 'OBJECT /L"lib', 'OBJECT /L"lib"x,,,l', 'OBJECT /L"c:\\tc lib"/e',
+    'OBJECT /L"lib";', 'OBJECT /L"",,,x/l', 'OBJECT /L"x/c",,,l', 'a -j"sub/",out', 'OBJECT /L"x";"lib",,,l',
+    'OBJECT/L"x",,,l', 'OBJECT /e"x"', 'OBJECT /m/L"x",,,l', 'OBJECT /L"x"+/j"sub"+a', 'OBJECT /L"x"/q,,,l',
+    '/L"prn" OBJECT', '/Lsub;con OBJECT', '/jnul: OBJECT', '/L"x;aux",,,l',
+    "com,out.bin/t", "com,out.rom/Tdc", "flat,out.bin/t", "flat,out/t", "flat,out./t", "flat,out.x/t", "com,out.CoM/t",
+    "flat,out.com/t", "com,sub/prog.y/t", "com,out.bin/t/t-", 'com,"out.bin"/t', "com+0,out.bin/t", "flat+0,out.bin/t",
+    "odd,out.bin/t", "odd,out/t", "flat,out.bin", "com,out.bin,list/t/s", "flat,out.sys/Tdc",
+    "stacked,out.bin/t", "wordy,out.bin/t", "stacked,out/t", "wordy+0,out.x/Tdc",
+    "flat,x.lib/prog /t", "flat,./out /t", "com,x.lib\\prog /Tdc"]
+# lines of LINK, whose /TINY is of .COM files alone
+MORE_LINES_OF_LINK = [
+    "flat,out.bin/T", "flat,out.x /TINY;", "com,out.bin/t", "com,out /Tin",
+    "OBJECT /CO,,,,defs", "/E /CO OBJECT,,,,defs;", "OBJECT,out/co,nul,,defs /E", "/EXE OBJECT,,,,defs"]
+# lines that name files of definitions, and what such a file has
+LINES_OF_DEFINITIONS = [
+    "OBJECT,,,,defs", "OBJECT,out,list,,defs.def/m", 'OBJECT,,,,"defs"', "OBJECT,,,,Defs.Def;", "OBJECT,,,,./defs",
+    "OBJECT,defs.def,,,defs", "OBJECT,,defs.DEF,,defs", "OBJECT,,,,defs defs", "OBJECT,,,,absent", "OBJECT,,,,defs.x",
+    "OBJECT,,,,sub", "OBJECT,,,,0.obj", "/e OBJECT,,,,defs", "OBJECT\nout\n\n\ndefs\n", "nowhere,,,,defs",
+    "OBJECT,,,,defs;x", "OBJECT,,,,con", "OBJECT,,,,prn.def", "OBJECT,,,,sub\\..\\defs"]
+DEFINITIONS = [
+    b"", b"; none\r\nNAME prog\r\n", b"name\n description 'a;b' ; c\nSTACKSIZE 4096", b"STACKSIZE 0x800;",
+    b"stacksize x",
+    b"LIBRARY x", b"\tName x WINDOWAPI\n\nEXPORTS\n", b"DESCRIPTION x", b'description "a;b"',
+    b"DESCRIPTION 'a\nb'",
+    b"\x1Alibrary", b"name x\x1Alibrary", b"name\xE9", b"STACKSIZE 4096 4", b"stacksize 1048577", b"stacksize 1048576",
+    b"stacksize 010;", b"STACKSIZE 08", b"NAME;x\nname'x'\nNAMES", b"\fNAME\f\r\n\f", b"name\n" * 24,
+    b"name x\n" * 21 + b"code",
+    b"DESCRIPTION 'a' b", b"description 'a';", b"DESCRIPTION", b"STACKSIZE", b"STACKSIZE;4", b"\n\n  segments\n",
+    b"  name a\n\xC3\xA9 x", b"DESCRIPTION 'a\"", b'description"a"', b"stacksize\t0X10\f;x",
+    b"name \xC3\xA9\n heapsize 0"]
 # lines by which marks, blanks and options that are switched off show; of each linker, and of TLINK alone
 MARKED_LINES = [
     "OBJECT+,\nlist", "OBJECT +,out,\nnul", "OBJECT,\nout,\nlist,\n;", "OBJECT,\n\nlist", "OBJECT,out,\r\nlist\r\n",

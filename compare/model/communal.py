@@ -27,8 +27,9 @@ FAR_NAME = b"FAR_BSS"
 WORD, PARAGRAPH = 2, 3
 PRIVATE, PUBLIC = 0, 2
 MOST_SEGMENTS = records.LARGEST_INDEX
-# locations that have an offset alone, and those that have a frame
-OFFSETS, BASES = (Location.OFFSET, Location.LOADER_OFFSET), (Location.BASE, Location.POINTER)
+# locations that have an offset alone, or a byte of one, and those that have a frame
+OFFSETS = Location.LOW_BYTE, Location.OFFSET, Location.LOADER_OFFSET
+BASES = Location.BASE, Location.POINTER
 # the faults
 BODY, DATA_TYPE, NEAR_AND_FAR, ELEMENT_SIZES = 53, 54, 55, 56
 NEAR_TOO_LONG, CUT_ELEMENT, TOO_MANY_SEGMENTS = 57, 58, 59
@@ -205,12 +206,19 @@ def communal_module(found, contents):
     return b"".join(map(Spelling().record, made_records(found, near_name)))
 
 
-def target_names(one, locations):
-    """The names of the externals that fix-ups of a module at some locations refer to."""
-    return [
-        one.externals[fixup.reference.target.index - 1].name
-        for data in one.data for fixup in data.fixups
-        if fixup.location in locations and fixup.reference.target.method == Method.EXTERNAL]
+def references_at(one, locations):
+    """The references of the fix-ups of a module at some locations."""
+    return [fixup.reference for data in one.data for fixup in data.fixups if fixup.location in locations]
+
+
+def framing(reference):
+    """What a reference has its frame by: the target, or something else."""
+    return reference.target if reference.frame.method == Method.TARGET else reference.frame
+
+
+def external_names(one, sides):
+    """The names of those externals of a module by which some frames or targets are said."""
+    return [one.externals[each.index - 1].name for each in sides if each.method == Method.EXTERNAL]
 
 
 def is_own_far(one, public):
@@ -221,11 +229,11 @@ def is_own_far(one, public):
 
 def reached_by_offset(one, found, key):
     """The names of the externals of a module that are far variables, those of the program or its own, and that it
-    reaches by their offsets alone: no fix-up has their frame. Two externals may mean one of them."""
+    reaches by their offsets alone: no base and no pointer has their frame. Two externals may mean one of them."""
     far = {key(each.name) for each in found if each.extent.is_far}
     own_far = {key(each.name) for each in one.publics if is_own_far(one, each)}
-    by_offset = set(map(key, target_names(one, OFFSETS)))
-    by_base = set(map(key, target_names(one, BASES)))
+    by_offset = set(map(key, external_names(one, [each.target for each in references_at(one, OFFSETS)])))
+    by_base = set(map(key, external_names(one, map(framing, references_at(one, BASES)))))
     reached = {}
     for each in one.externals:
         if key(each.name) in (own_far if each.is_local else far) & by_offset - by_base:

@@ -24,6 +24,9 @@ MOST_FILES = 200
 # what is put behind the path of a file of directives, and what such a file ends at
 ENDING, END = ".lnk", b"\x1a"
 TOO_MANY = f"a line has at most {MOST_FILES} response files"
+# and how deep they may name one another
+MOST_DEEP = 8
+TOO_DEEP = f"response files name one another more than {MOST_DEEP} deep"
 # the end of the memory that a real-mode address reaches
 MEMORY_END = 0x100000
 # a name between quotes of either kind, a word, or a comma, an equals sign or a brace
@@ -49,7 +52,7 @@ class Stack:
 
 @dataclass
 class Form:
-    """What the program's file is: "exe", "com", "bin" or "sys"; of a raw image its paragraph and
+    """What the program's file is: "exe", "com", "start", "bin" or "sys"; of a raw image its paragraph and
     the address of its first byte; of an EXE file the paragraphs that it asks for at most behind its image, where that
     is said."""
 
@@ -75,6 +78,8 @@ class Job:
     has_default_libraries: bool = True
     keeps_debug: bool = False
     packs_far_data: bool = False
+    # the name of a file of definitions
+    definitions: Optional[str] = None
     # whether the order of DOSSEG has null bytes in front of _TEXT
     has_null_bytes: bool = True
     stack: Optional[Stack] = None
@@ -86,10 +91,9 @@ class Job:
     maps_to_out: bool = False
     # "omf", "link" or "tlink"
     map_form: str = "omf"
-    # whether a map in one of the last two forms has line numbers
+    # whether a map in one of the last two forms has line numbers, and the detailed map of segments
     map_has_lines: bool = False
-    # what is asked for and the map hasn't
-    map_lacks: list = field(default_factory=list)
+    map_has_details: bool = False
     # default libraries that aren't searched
     left_out: list = field(default_factory=list)
     # the public at which the program starts, names that are wanted, and pairs of a name and what it means
@@ -493,7 +497,8 @@ LEFT_OUT = {
 SHORTER = {
     "quiet": 1, "map": 1, "stack": 2, "start": 4, "dosseg": 3, "caseexact": 1, "nodefaultlibs": 3, "symfile": 4,
     "verbose": 1, "statics": 4, "artificial": 3, "showdead": 3, "maxerrors": 4,
-    "mangled": 3,
+    "mangled": 3, "cache": 3, "nocache": 5, "farcalls": 2, "nofarcalls": 3, "nocaseignore": 7,
+    "noignorecase": 3, "nocaseexact": 5, "caseignore": 5, "ignorecase": 2,
 }
 OPTIONS = {each: SHORTER.get(each, len(each)) for each in ("map", "stack", "start", *SWITCHES, *LEFT_OUT)}
 
@@ -542,29 +547,45 @@ def text_of(path, files):
         raise Unread(path, True) from None
 
 
-def path_of(word, files):
-    """The path of the file of directives that a word names: with an ending where nothing is there without."""
-    path = word[1:]
+def path_of(path, files):
+    """The path of a file of directives: with an ending where nothing is there without."""
     has_dot = "." in re.split(r"[/\\:]", path)[-1]
     longer = path + ENDING
     return longer if not has_dot and files.get(path) is None and files.get(longer) is not None else path
 
 
-def spoken(words, files):
-    """The lines that words give: those of a file where a word begins with `@`, else its own.
+def file_named(line):
+    """The file of directives that a line is the name of, behind `@`; None where it is none."""
+    text = line.text.strip(SPACE)
+    return text[1:] if text.startswith("@") else None
 
-    They name so many files at most.
+
+def standing_for(line, files, read):
+    """What stands for a line: the lines of the file that it names, else itself.
+
+    The files are read as well.
     """
-    lines = []
-    behind = [word[1:] for word in words if word.startswith("@")][MOST_FILES:]
-    if behind:
-        raise DirectiveFault(0, f"{behind[0]}: {TOO_MANY}")
-    for word in words:
-        if word.startswith("@"):
-            lines += lines_of(text_of(path_of(word, files), files), word[1:])
-        else:
-            lines += lines_of(word)
-    return lines
+    path = file_named(line)
+    if path is None:
+        return [line]
+    if len(read) == MOST_FILES:
+        raise DirectiveFault(0, f"{path}: {TOO_MANY}")
+    read.append(path_of(path, files))
+    return lines_of(text_of(read[-1], files), path)
+
+
+def spoken(words, files):
+    """The lines that words give, with those of files in the place of such as name one; and these files.
+
+    Files may name others, so deep.
+    """
+    lines, read = [line for word in words for line in lines_of(word)], []
+    for _ in range(MOST_DEEP):
+        lines = [each for line in lines for each in standing_for(line, files, read)]
+    for path in map(file_named, lines):
+        if path is not None:
+            raise DirectiveFault(0, f"{path}: {TOO_DEEP}")
+    return lines, read
 
 
 def read_directives(lines):

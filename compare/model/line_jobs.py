@@ -3,8 +3,9 @@ both ask for."""
 
 import re
 
-from model import line_options, lines, ordering
-from model.directives import MOST_FILES, SPACE, TOO_MANY, Form, Input, Job, Stack, quoted, text_of as text_of_path
+from model import definitions, line_options, lines, ordering
+from model.directives import (
+    MOST_DEEP, MOST_FILES, SPACE, TOO_DEEP, TOO_MANY, Form, Input, Job, Stack, quoted, text_of as text_of_path)
 
 # what is told of a word that can't be followed
 KINDS = {
@@ -14,7 +15,6 @@ KINDS = {
     lines.TOO_MANY_FIELDS: "no field is expected behind the definitions",
     lines.BEHIND_END: "nothing is expected behind `;`",
     lines.DEVICE: "a file is expected, and no device",
-    lines.DEFINITIONS: "definitions aren't followed: a field that is empty or NUL is expected",
     lines.NO_OPTION: "an option is expected",
     lines.TWO_WAYS: "a blank is expected between options, and folders without one of an option's name",
     line_options.UNKNOWN_OPTION: "unknown option",
@@ -24,26 +24,29 @@ KINDS = {
     line_options.NO_NOEXE: "NOEXE is expected behind `:`",
     line_options.SHORT_FOR_SEVERAL: "more of the option's name is expected: it is short for several",
     line_options.NO_FOLDERS: "folders are expected right behind the letter",
+    line_options.PARTLY_QUOTED: "a folder is expected between two quotes, or without",
     line_options.OVERLAYS: "overlays aren't made",
     line_options.P_CODE: "p-code isn't linked",
     line_options.NOT_DOS: "no other program is written than one for DOS",
     line_options.REFUSED: "the option would change the program, and isn't followed",
+    definitions.DEFINITIONS: "NAME, DESCRIPTION or STACKSIZE is expected: no other definition is followed",
+    definitions.NO_DESCRIPTION: "a text between quotes is expected, and nothing behind it",
+    definitions.NO_STACK_SIZE: "a number is expected, and nothing behind it",
 }
 # what is told of one that has no effect
 IDLE = {
     line_options.DEBUG: "no data for debuggers is written",
     line_options.PACKING: "the program isn't packed: it runs the same",
     line_options.NOTHING: "the option has no effect",
+    definitions.DEFINITION: "nothing of it is used",
 }
 ALL_BYTES = "/i isn't followed: segments without data take no bytes of the file"
-# what a map is called
-MAP = ".MAP"
+# what a map is called, and a file of definitions
+MAP, OF_DEFINITIONS = ".MAP", ".DEF"
 # what stands in front of a line: a file of TLINK, and a variable of LINK
 FRONTS = {lines.TLINK: "TLINK.CFG", lines.LINK: "LINK"}
 # what parts the folders of a linker that a variable calls
 BETWEEN_FOLDERS = re.compile(r"[\\/:]")
-TOO_DEEP = "response files name one another more than 8 deep"
-MOST_DEEP = 8
 
 
 class LineRefused(Exception):
@@ -136,23 +139,42 @@ def said_by(language, text, front):
         raise LineRefused(f"{place}: {quoted(fault.word)}: {KINDS[fault.kind]}") from None
 
 
+def has_other_extension(name):
+    """Whether a name that is said has an extension, and another one than .COM."""
+    _, dot, extension = BETWEEN_FOLDERS.split(name or "")[-1].rpartition(".")
+    return dot != "" and extension.lower() != "com"
+
+
+def definitions_of(name, files):
+    """The path of a file of definitions, and what is told of each of its statements."""
+    path = name if "." in BETWEEN_FOLDERS.split(name)[-1] else name + OF_DEFINITIONS
+    text = text_of_path(path, files)
+    try:
+        places = definitions.statements(text)
+    except lines.LineFault as fault:
+        place = place_in(lines.LINK, "", text, fault.place)
+        raise LineRefused(f"{path}: {place}: {quoted(fault.word)}: {KINDS[fault.kind]}") from None
+    return path, [f"{path}: {place_in(lines.LINK, '', text, each)}: {IDLE[definitions.DEFINITION]}" for each in places]
+
+
 def job_of(language, text, front=""):
     """The job of a text behind its front; its program and its map are still named as they are written."""
     said = said_by(language, text, front)
     if said.writes_all:
         raise LineRefused(ALL_BYTES)
     # a .COM file has no header that could ask for memory
-    form = Form("com") if said.form == "com" else Form("exe", most_extra=said.most_extra)
+    form = Form("exe", most_extra=said.most_extra)
+    if said.form == "com":
+        form = Form("start" if language == lines.TLINK and has_other_extension(said.out) else "com")
     map_name = lines.map_of(said)
-    lacks = [(said.is_detailed, "tells of no module's parts of segments")]
     return Job(
         inputs=[Input(name, is_library) for name, is_library in said.inputs],
         out=said.out, map=map_name or None, maps_to_out=map_name == "", map_form=language,
-        map_has_lines=said.has_lines,
-        map_lacks=[what for is_asked, what in lacks if is_asked and map_name is not None],
+        map_has_lines=said.has_lines, map_has_details=said.is_detailed,
         folders=said.folders, object_folders=said.object_folders, ignores_case=not said.case_counts,
         order=ordering.DOSSEG if said.order else None,
         has_default_libraries=said.has_default_libraries, left_out=said.left_out,
         has_null_bytes=language == lines.LINK and said.order != "dosseg-nonulls",
+        definitions=lines.definitions_of(said),
         stack=None if said.stack is None else Stack(said.stack, cuts=True), form=form, is_verbose=said.is_verbose,
         warnings=[(place_in(language, front, text, place), IDLE[idle]) for place, idle in said.warnings])

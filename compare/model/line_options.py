@@ -9,7 +9,7 @@ import re
 # why a word can't be followed
 UNKNOWN_OPTION, REFUSED = "UnknownOption", "Refused"
 SHORT_FOR_SEVERAL, NO_VALUE_EXPECTED, NO_NOEXE, NO_FOLDERS = "ShortForSeveral", "NoValue", "NoNoExe", "NoFolders"
-OVERLAYS, NOT_DOS, P_CODE = "Overlays", "NotDos", "PCode"
+OVERLAYS, NOT_DOS, P_CODE, PARTLY_QUOTED = "Overlays", "NotDos", "PCode", "PartlyQuoted"
 # what becomes of an option that is taken with a warning
 DEBUG, PACKING, NOTHING = "Debug", "Packing", "Nothing"
 # the numbers that are expected of options
@@ -211,12 +211,32 @@ TLINK_FLAGS = {
 TLINK_WORDS = {"Tdc": sets(form="com"), "Tde": sets(form="exe"), "Td": sets(form="exe"), "yc": nothing, "ye": nothing}
 
 
+def parts(text, mark):
+    """What a mark parts of a text, but for one between quotes."""
+    found, begin, is_quoted = [], 0, False
+    for at, byte in enumerate(text):
+        if byte == '"':
+            is_quoted = not is_quoted
+        elif byte == mark and not is_quoted:
+            found.append(text[begin:at])
+            begin = at + 1
+    return [*found, text[begin:]]
+
+
+def folders_in(value):
+    """The folders of a value; a quote stands in front of the whole of one and behind it."""
+    for folder in parts(value, ";"):
+        if '"' in folder and re.fullmatch('"[^"]*"', folder) is None:
+            raise Wrong(PARTLY_QUOTED)
+        yield folder.replace('"', "")
+
+
 def add_folders(said, value, place):
-    said.folders += value.split(";")
+    said.folders += folders_in(value)
 
 
 def add_object_folders(said, value, place):
-    said.object_folders += value.split(";")
+    said.object_folders += folders_in(value)
 
 
 # what goes by its beginning, in this order; the value is what the brackets have

@@ -9,12 +9,12 @@ import re
 from dataclasses import dataclass, field
 from typing import Optional
 
-from model.line_options import FAULT, OPTION, OVERLAYS, Wrong, has_free_value, takes_folders
+from model.line_options import FAULT, OPTION, OVERLAYS, Wrong, has_free_value, parts, takes_folders
 
 LINK, TLINK = "link", "tlink"
 NO_OBJECT, SECOND_NAME, TOO_MANY_FIELDS = "NoObject", "SecondName", "TooManyFields"
 BEHIND_END, UNCLOSED, RESPONSE = "BehindEnd", "UnclosedQuote", "Response"
-DEVICE, DEFINITIONS, TWO_WAYS, NO_OPTION = "Device", "Definitions", "TwoWays", "NoOption"
+DEVICE, TWO_WAYS, NO_OPTION = "Device", "TwoWays", "NoOption"
 OBJECTS, PROGRAM, MAP, LIBRARIES, DEFINED, ENDED = range(6)
 # blanks, and what else parts words
 BLANKS, MARKS = " \t\f\r", "+,;\n"
@@ -45,6 +45,7 @@ class Said:
     inputs: list = field(default_factory=list)
     out: Optional[str] = None
     map: Optional[str] = None
+    definitions: Optional[str] = None
     folders: list = field(default_factory=list)
     object_folders: list = field(default_factory=list)
     # libraries that aren't searched where only modules name them
@@ -107,13 +108,23 @@ def tokens(language, text):
 
 
 def word_at(language, text, place):
-    """The word that begins at a place; within folders of an option `;` is a part of it."""
+    """The word that begins at a place; within folders of an option `;` is a part of it, and a folder between quotes."""
     end = place + 1
-    while end < len(text) and text[end] not in BLANKS + '+,\n"':
+    while end < len(text) and text[end] not in BLANKS + "+,\n":
         if text[end] == ";" and not in_folders(language, text[place:end]):
             break
+        if text[end] == '"':
+            close = text.find('"', end + 1)
+            if close < 0 or not begins_folder(language, text[place:end]):
+                break
+            end = close
         end += 1
     return text[place:end]
+
+
+def begins_folder(language, word):
+    """Whether a folder begins behind a word that is begun."""
+    return in_folders(language, word) and re.search("(?:;|(?:/|^-)[Lj])$", word) is not None
 
 
 def in_folders(language, word):
@@ -156,7 +167,7 @@ def cut_begun(language, word):
 
     Folders that may be options as well are a fault, unless the signs of DOS say that `/` parts no folders there.
     """
-    options = word[1:].split("/")
+    options = parts(word[1:], "/")
     if all(is_option(language, each) for each in options):
         if len(options) > 1 and takes_folders(language, word[1:]) and not OF_DOS.search(word):
             raise Wrong(TWO_WAYS)
@@ -169,8 +180,8 @@ def cut_begun(language, word):
 
 
 def base(name):
-    """A name without extensions, and without the colon behind a device, in small letters."""
-    return name.partition(".")[0].partition(":")[0].lower()
+    """A name without folders and extensions, and without the colon behind a device, in small letters."""
+    return re.split(r"[/\\:]", name.removesuffix(":"))[-1].partition(".")[0].lower()
 
 
 def refuse_device(name):
@@ -301,13 +312,22 @@ class Reader:
             self.said.inputs.append((name, True))
 
     def read_definitions(self, name):
-        if base(name) != NO_FILE:
-            raise Wrong(DEFINITIONS)
+        if self.said.definitions is not None:
+            raise Wrong(SECOND_NAME)
+        refuse_device(name)
+        if base(name) == CONSOLE:
+            raise Wrong(DEVICE)
+        self.said.definitions = name
 
 
 def read(language, text, front=""):
     """What a line of a language says behind its front, or a LineFault."""
     return Reader(language, text, front).read()
+
+
+def definitions_of(said):
+    """The name of the file of definitions, or None."""
+    return None if said.definitions is None or base(said.definitions) == NO_FILE else said.definitions
 
 
 def map_of(said):

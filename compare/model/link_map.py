@@ -7,13 +7,14 @@ FRAME_REACH = 65_536
 PARAGRAPH = 16
 
 
-def map_of(program, form, line_numbers=()):
-    """Its parts, each but the first behind an empty line of its own; the lines of line numbers are given."""
+def map_of(program, form, line_numbers=(), details=()):
+    """Its parts, each but the first behind an empty line of its own; the lines of what is asked for are given."""
     publics = listed_publics(program.layout)
     registers = program.registers
     lines = [b"", *lines_of_segments(program.layout, form)]
     if form == LINK:
         lines += [b"", b" Origin   Group", *lines_of_groups(program.layout)]
+    lines += details
     lines += lines_of_publics(b"Name", sorted(publics, key=lambda each: each[3]))
     lines += lines_of_publics(b"Value", sorted(publics, key=lambda each: each[:2]))
     lines += line_numbers

@@ -11,7 +11,7 @@ from typing import Optional
 
 from model import (
     communal, directives, faults, foreign, forms, image, libraries, line_jobs, line_numbers, lines, link_map,
-    local, lowering, module, naming, ordering, printing, search, stack)
+    local, lowering, module, naming, ordering, parts, printing, search, stack)
 from model.commands import Answer, Output
 from model.directives import Form
 from model.faults import Fault, escaped, printed_name
@@ -48,6 +48,7 @@ INPUT, WRONG_WORDS, NO_DEVICE = 1, 2, 3
 # how long the name of a default library may be
 LONGEST_NAME = 255
 TWO_NAMES = "two names there differ by case alone"
+NO_DRIVE = "there is no such drive"
 
 
 class Stop(Exception):
@@ -173,10 +174,18 @@ def library_paths(name, folders):
     return paths_of(name, endings, folders)
 
 
+def is_foreign(content):
+    """Whether a file begins as none with modules does."""
+    return libraries.kind_of_file(content) == "object" and not content.startswith(foreign.HEADERS)
+
+
 def why_unread(paths, files):
     """What is said where there is a file at none of some paths: of the last one where there is something else."""
-    is_folder, has_two = (getattr(files, name, nowhere) for name in ("is_folder", "has_two"))
+    is_folder, has_two, lacks_drive = (
+        getattr(files, name, nowhere) for name in ("is_folder", "has_two", "lacks_drive"))
     for path in reversed(paths):
+        if lacks_drive(path):
+            return NO_DRIVE
         if has_two(path):
             return TWO_NAMES
         if is_folder(path):
@@ -186,7 +195,10 @@ def why_unread(paths, files):
 
 def why_unwritten(path, files, is_free):
     """What is said where no file can be made at a path; it is free where none was just written there."""
-    is_folder, has_two = (getattr(files, name, nowhere) for name in ("is_folder", "has_two"))
+    is_folder, has_two, lacks_drive = (
+        getattr(files, name, nowhere) for name in ("is_folder", "has_two", "lacks_drive"))
+    if lacks_drive(path):
+        return NO_DRIVE
     if has_two(path):
         return TWO_NAMES
     if not is_free:
@@ -262,7 +274,7 @@ class Linking:
         lines = []
         for each in self.job.inputs:
             paths = self.paths_of_input(each)
-            path = self.found(paths)
+            path = self.found_given(paths)
             if path is None:
                 lines.append(f"{each.name}: 1 Device at record 0: {why_unread(paths, self.files)}")
             else:
@@ -291,15 +303,26 @@ class Linking:
         """The map in its form; that of `omf` has the modules behind it."""
         if self.job.map_form == "omf":
             return printing.map_of(program) + self.table_of(program)
-        lines = []
+        lines, details = [], []
+        if self.job.map_has_details:
+            details = parts.lines_of(program, self.contents)
         if self.job.map_has_lines:
             words = [each.word for each in self.handed]
             lines = line_numbers.paragraphs(program, words, self.contents)
-        return link_map.map_of(program, self.job.map_form, lines)
+        return link_map.map_of(program, self.job.map_form, lines, details)
 
     def found(self, paths):
         """The first path at which a file is, or None."""
         return next((path for path in paths if self.files.get(path) is not None), None)
+
+    def found_given(self, paths):
+        """The same, but that a file that is taken last is so where there is another one."""
+        return self.found([path for path in paths if not self.is_taken_last(path)]) or self.found(paths)
+
+    def is_taken_last(self, path):
+        """Whether the file at a path has no extension, and begins as none with modules does."""
+        content = self.files.get(path)
+        return content is not None and "." not in last_part(path) and is_foreign(content)
 
     def add(self, path):
         """One more file."""
@@ -747,7 +770,7 @@ def link_by_directives(words, files, folders=(), can_be_made=always):
     """
     files = DosFiles(files)
     try:
-        spoken = directives.spoken(words, files)
+        spoken, spoken_files = directives.spoken(words, files)
         job = directives.read_directives(spoken)
     except directives.DirectiveFault as fault:
         return Answer(WRONG_WORDS, error=told([fault.text]).encode(), fault=faults.WORDS)
@@ -757,7 +780,6 @@ def link_by_directives(words, files, folders=(), can_be_made=always):
     misnamed = []
     if job.form is None and other_form(job.out) is not None:
         misnamed = [named_otherwise(job.out, DIRECTIVES)]
-    spoken_files = [directives.path_of(word, files) for word in words if word.startswith("@")]
     answer = link_by_dos_names(named_whole(job), files, folders, can_be_made, spoken_files)
     answer.error = told([*told_at_most(warnings, False), *misnamed]).encode() + answer.error
     return answer
@@ -779,8 +801,8 @@ def link_by_line(language, words, files, folders=(), can_be_made=always, variabl
 
     Its LIB is LINK's alone.
 
-    What is left out is told before all else, then that an EXE file has the name of another form, and what the map
-    hasn't.
+    What is left out is told before all else, then libraries that aren't linked whole, and that an EXE file has the name
+    of another form.
     """
     files = DosFiles(files)
     folders = () if language == lines.TLINK else folders
@@ -793,11 +815,26 @@ def link_by_line(language, words, files, folders=(), can_be_made=always, variabl
         return unread_answer(unread, files)
     first = next((each.name for each in job.inputs if not each.is_library), "")
     warnings = [f"warning: {place}: {what}" for place, what in job.warnings]
-    lacks = [f"warning: the map {what}" for what in job.map_lacks]
+    searched = [] if language == lines.TLINK else [
+        f"warning: {each.name}: it is searched, and not linked whole" for each in job.inputs
+        if not each.is_library and each.name.lower().endswith(".lib")]
+    misnamed = []
     if job.form.kind == "exe" and other_form(job.out) is not None:
-        lacks.insert(0, named_otherwise(job.out, language))
+        misnamed = [named_otherwise(job.out, language)]
+    kinds = [*told_at_most(warnings, job.is_verbose), *told_at_most(searched, job.is_verbose), *misnamed]
+    try:
+        if job.definitions is not None:
+            path, statements = line_jobs.definitions_of(job.definitions, files)
+            kinds += told_at_most([f"warning: {each}" for each in statements], job.is_verbose)
+            spoken_files = [*spoken_files, path]
+    except line_jobs.LineRefused as refused:
+        return Answer(WRONG_WORDS, error=told([*kinds, refused.text]).encode(), fault=faults.WORDS)
+    except directives.Unread as unread:
+        answer = unread_answer(unread, files)
+        answer.error = told(kinds).encode() + answer.error
+        return answer
     answer = link_by_dos_names(whole_names(job, first), files, folders, can_be_made, spoken_files)
-    answer.error = told([*told_at_most(warnings, job.is_verbose), *lacks]).encode() + answer.error
+    answer.error = told(kinds).encode() + answer.error
     return answer
 
 

@@ -1,10 +1,13 @@
 """Files by their paths: by whatever path leads to them, by names of DOS, and where names tell no cases apart, as under
 Windows."""
 
+import re
 from os.path import join, normpath, split
 from pathlib import PurePosixPath
 
 HERE = "."
+# what a path with a drive begins with
+DRIVE = re.compile("[A-Za-z]:")
 # how many names of a path are looked for at most
 MOST_NAMES = 64
 
@@ -19,6 +22,8 @@ class Places(dict):
     """
 
     same = staticmethod(normpath)
+    # whether the system tells what stands in folders
+    is_told = True
 
     def __init__(self, files):
         super().__init__(files)
@@ -58,6 +63,8 @@ class PlacedFiles(Places):
 class UnlistedFiles(PlacedFiles):
     """The same where folders can't be listed."""
 
+    is_told = False
+
     def names_in(self, front):
         return ()
 
@@ -71,6 +78,7 @@ class BlindFiles(Places):
     """Files of which a path leads to the one of this very name, or else to one whose name is the same but for case."""
 
     same = staticmethod(same_name)
+    is_told = False
 
     def get(self, path, default=None):
         content = super().get(path)
@@ -103,11 +111,23 @@ class DosFiles:
     def __init__(self, files):
         self.files = files
 
+    def lacks_drive(self, path):
+        """Whether a path begins with a drive, and neither it nor what is called as the drive is there."""
+        is_there = path.replace("\\", "/")
+        return (DRIVE.match(path) is not None and self.files.is_told and not self.has_drive(path[:2])
+                and self.files.get(is_there) is None and not self.files.is_folder(is_there))
+
+    def has_drive(self, drive):
+        """Whether something in this folder is called as a drive, in either case."""
+        return any(small(each) == small(drive) for each in self.files.names_in(""))
+
     def meant(self, path):
-        """The system's path that is meant, or None where two names of a folder may be.
+        """The system's path that is meant, or None where two names of a folder may be, or its drive isn't there.
 
         So it is the path as it is written where something stands there, or where it has too many names.
         """
+        if self.lacks_drive(path):
+            return None
         names, found = path.replace("\\", "/").split("/"), []
         if len(names) > MOST_NAMES:
             return "/".join(names)
@@ -131,7 +151,7 @@ class DosFiles:
 
     def has_two(self, path):
         """Whether two names of a folder may be meant."""
-        return self.meant(path) is None
+        return self.meant(path) is None and not self.lacks_drive(path)
 
     def can_be_made(self, path, can_be_made):
         """Whether the system can make the file that is meant."""
