@@ -20,7 +20,10 @@ pub(crate) const LINE_FILES: [(&str, &[u8]); 17] = [
     ("DEEPER", b"@OBJS,P.EXE"),
     ("LINES2", b"F\nP.EXE\n/z\n"),
     ("IDLE", b"sort global\n"),
-    ("DEFINED.DEF", b" NAME A ; a program\r\n\r\nstacksize 0x800\r\n\x1Ax"),
+    (
+        "DEFINED.DEF",
+        b" NAME A ; a program\r\n\r\nstacksize 0x800\r\n\x1Ax",
+    ),
     ("AMISS.DEF", b"name A\nEXPORTS _f\n"),
     ("TWICE", b"@MANY @MANY @MANY @MANY @MANY @MANY @MANY @MANY"),
 ];
