@@ -13,8 +13,8 @@ from model.places import PlacedFiles
 LINK, DIRECTIVES = "doslink", "wlink"
 # by what it is called to take lines of other linkers, and the words that say the same
 LINES = ("link", "tlink")
-# one seed in so many has one job more
-MORE_EVERY = 3
+# one seed in so many has one job more, and one in so many has one that is made for no rule
+MORE_EVERY, PLAIN_EVERY = 3, 2
 # of a seed that is kept
 WORDS = "words"
 no_counts, lines_of_limits = comparison.no_counts, comparison.lines_of_limits
@@ -25,8 +25,8 @@ class Comparison(comparison.Comparison):
 
     # whether a seed is a job by the words of doslink or wlink, and whether it is one by a line of LINK or TLINK
     has_words = has_lines = True
-    # whether names of files tell cases apart
-    tells_cases = True
+    # whether names of files tell cases apart, and whether the path /dev/stdout is standard output
+    tells_cases = has_devices = True
     # by what names the program is called, so it reads words, directives or lines; all others stand behind --as
     names = (LINK, DIRECTIVES, *LINES, "jwlink", "JWLink.EXE")
 
@@ -46,7 +46,15 @@ class Comparison(comparison.Comparison):
             self.compare_case(chance, jobs.case(chance, seed, has_lines=True))
         if self.has_lines and seed % MORE_EVERY == 0:
             chance = random.Random(f"{seed} once more")
-            self.compare_case(chance, jobs.more_case(chance, seed // MORE_EVERY, self.has_words))
+            turn = seed // MORE_EVERY
+            self.compare_case(chance, jobs.more_case(chance, turn, self.has_words, self.has_devices))
+        if seed % PLAIN_EVERY == 0:
+            chance, has_lines = random.Random(f"{seed} for no rule"), self.has_lines_at(seed // PLAIN_EVERY)
+            self.compare_case(chance, jobs.plain_case(chance, has_lines, self.tells_cases or has_lines))
+
+    def has_lines_at(self, number):
+        """Whether a job that is made for no rule is by a line: each second one, where some are by words."""
+        return self.has_lines and (not self.has_words or number % 2 == 1)
 
     def compare_case(self, chance, case):
         """One job, often with an older OUT."""

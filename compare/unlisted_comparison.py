@@ -13,6 +13,8 @@ lines_of_ends, summary = doslink_comparison.lines_of_ends, doslink_comparison.su
 class Comparison(doslink_comparison.Comparison):
     """Compares one job after the other, as on such a system."""
 
+    has_devices = False
+
     def files_of(self, case, given):
         return UnlistedFiles({**case.files, **given})
 

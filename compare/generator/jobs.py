@@ -16,12 +16,12 @@ from generator.libraries import (
     foreign, library, with_header)
 from generator.objects import (
     CLASSES, LAZY, MARKS, NAMES, SEGMENTS, TITLES, WEAK, ObjectMaker, any_plan, module_of_alias,
-    module_of_code, module_of_cut_public, module_of_default, module_of_edge, module_of_external,
-    module_of_far_data, module_of_flat, module_of_form, module_of_lengths, module_of_links,
-    module_of_local_defaults, module_of_long_aliases, module_of_long_externals,
-    module_of_many_parts, module_of_marks, module_of_no_alignment, module_of_publics,
-    module_of_shared_word, module_of_stack, module_of_start, module_of_sum, module_of_wide_record,
-    module_of_wide_segment, segments_called)
+    module_of_code, module_of_communal_data, module_of_cut_public, module_of_debug,
+    module_of_default, module_of_edge, module_of_external, module_of_far_data, module_of_flat,
+    module_of_form, module_of_lengths, module_of_links, module_of_local_defaults,
+    module_of_long_aliases, module_of_long_externals, module_of_many_parts, module_of_marks,
+    module_of_no_alignment, module_of_publics, module_of_shared_word, module_of_stack,
+    module_of_start, module_of_sum, module_of_wide_record, module_of_wide_segment, segments_called)
 from model import ordering
 from model.directives import Form, Input, Job, Stack
 from model.placement import folded
@@ -537,6 +537,46 @@ class JobMaker:
         self.folders, self.job.map = [], MAP
         return self.asked()
 
+    def make_debug(self, class_name, keeps_debug):
+        """A segment for debuggers, which is linked where the words say so."""
+        self.files["0.obj"] = module_of_debug(class_name)
+        self.give("0.obj")
+        self.folders, self.job.map, self.job.keeps_debug = [], MAP, keeps_debug
+        return self.case(self.words(), "doslink")
+
+    def make_misplaced(self):
+        """A module that stands in a folder of libraries alone."""
+        self.files["0.obj"] = self.files["lib/1.obj"] = module_of_publics([b"x"])
+        self.give("0.obj")
+        self.give("1.obj")
+        self.folders, self.job.folders = [], ["lib"]
+        return self.case(self.words(), "doslink")
+
+    def make_default_misplaced(self):
+        """A default library that stands in a folder of modules alone."""
+        self.files["0.obj"] = module_of_links([], [b"f"], b"FIRST")
+        self.files["sub/FIRST.LIB"] = library(self.random, [module_of_links([b"f"], [], b"")], SMALL_PAGES)
+        self.give("0.obj")
+        self.folders, self.job.object_folders, self.has_lines = [], ["sub"], False
+        return self.by_directives()
+
+    def make_mixed_there(self, out, map_path):
+        """What is linked is told on standard output, which the program or its map is too, by the path of a device."""
+        self.files["0.obj"] = module_of_publics([b"x"])
+        self.give("0.obj")
+        self.folders, self.job.is_verbose, self.job.out, self.job.map = [], True, out, map_path
+        return self.case(self.words(), "doslink")
+
+    def make_later(self):
+        """A name of a default library that a member names, which is wanted in front of that member's own."""
+        self.files["0.obj"] = module_of_links([], [b"z", b"x"], b"")
+        self.files["0.lib"] = library(self.random, [module_of_links([b"x"], [], b"SECOND")], SMALL_PAGES)
+        self.files["SECOND.LIB"] = library(self.random, [module_of_links([b"z"], [], b"")], SMALL_PAGES)
+        self.give("0.obj")
+        self.give_library("0.lib")
+        self.folders, self.job.map = [], MAP
+        return self.asked()
+
     def make_libraries_alone(self):
         """A library, which nothing wants anything of; words have to name a file too."""
         self.files["0.lib"] = library(self.random, [module_of_publics([b"x"])], SMALL_PAGES)
@@ -596,6 +636,20 @@ class JobMaker:
         self.give("whole.obj")
         self.folders, self.job.map = [], MAP
         return self.asked()
+
+    def make_paged(self, page):
+        """A library whose pages have so many bytes, of which a member is wanted."""
+        self.files["0.lib"] = library(self.random, [module_of_publics([b"x"])], [page])
+        self.give_library("0.lib")
+        self.folders, self.job.map = [], MAP
+        return self.asked_of([module_of_external(b"x", 0x8C)])
+
+    def make_communal_data(self, kind, allocation):
+        """A library whose member offers a wanted name by a COMDAT."""
+        self.files["0.lib"] = library(self.random, [module_of_communal_data(b"x", kind, allocation)], SMALL_PAGES)
+        self.give_library("0.lib")
+        self.folders, self.job.map = [], MAP
+        return self.asked_of([module_of_external(b"x", 0x8C)])
 
     def make_cut_public(self):
         """A name that a member offers, in front of which one has a public of it that is cut."""
@@ -1666,16 +1720,28 @@ MORE_LINES = [
     *[(JobMaker.make_odd_line, line, TLINK) for line in MORE_LINES_OF_TLINK],
     *[(JobMaker.make_odd_line, line, LINK) for line in MORE_LINES_OF_LINK],
     *[(JobMaker.make_odd_line, line) for line in LINES_OF_DEFINITIONS],
-    *[(JobMaker.make_map, TLINK, options) for options in ("/s", "/s/l", "/l/s", "/s/m", "/s", "/s")]]
+    *[(JobMaker.make_map, TLINK, options) for options in ("/s", "/s/l", "/l/s", "/s/m", "/s", "/s")],
+    *[(JobMaker.make_paged, page) for page in (8, 16, 32_768, 65_536)],
+    *[(JobMaker.make_communal_data, kind, allocation) for kind in (0xC2, 0xC3) for allocation in (0, 1)],
+    (JobMaker.make_later,)]
 MORE_WORDS = [
     *[(JobMaker.make_spoken, *words) for words in SPOKEN_WORDS],
-    *[(JobMaker.make_by_dos, *words) for words in BY_DOS_WORDS]]
+    *[(JobMaker.make_by_dos, *words) for words in BY_DOS_WORDS],
+    *[(JobMaker.make_debug, name, keeps) for name in (b"DEBTYP", b"DWARF") for keeps in (True, False)],
+    (JobMaker.make_misplaced,), (JobMaker.make_default_misplaced,)]
+MORE_ON_DEVICES = [
+    (JobMaker.make_mixed_there, "/dev/stdout", None), (JobMaker.make_mixed_there, OUT, "/dev/stdout")]
 
 
-def more_case(random, turn, has_words=True):
-    """A job by one more line of LINK or TLINK, or by one more list of directives, and its files."""
-    cases = [*MORE_LINES, *(MORE_WORDS if has_words else [])]
+def more_case(random, turn, has_words=True, has_devices=True):
+    """A job by one more line of LINK or TLINK, or by one more list of words or directives, and its files."""
+    cases = [*MORE_LINES, *(MORE_WORDS if has_words else []), *(MORE_ON_DEVICES if has_words and has_devices else [])]
     return in_turn(made, cases)(JobMaker(random, True, True), turn)
+
+
+def plain_case(random, has_lines, tells_cases):
+    """A job that is made for no rule, and its files."""
+    return JobMaker(random, has_lines, tells_cases).make()
 
 
 def case(random, number=1, has_lines=False, tells_cases=True):

@@ -878,6 +878,27 @@ def module_of_wide_record(kind, body):
         spelling.record(records.ModuleEnd(False, None))])
 
 
+def module_of_debug(class_name):
+    """A module with code, and with a segment of a class for debuggers."""
+    made = [
+        records.Header(b"DEBUGGED"), records.NameList([b"", b"CODE", b"$$TYPES", class_name]),
+        records.SegmentDefinition(1, 2, 4, 2, 2, 1), records.SegmentDefinition(1, 2, 4, 3, 4, 1),
+        records.Data(1, 0, b"code"), records.Data(2, 0, b"type"), records.ModuleEnd(False, None)]
+    return b"".join(map(records.Spelling().record, made))
+
+
+def module_of_communal_data(name, kind, allocation):
+    """A module that offers a name by a COMDAT of this type, whose base is said where its allocation is 0."""
+    spelling = records.Spelling()
+    offset = bytes(4 if kind == 0xC3 else 2)
+    base = b"\0\1" if allocation == 0 else b""
+    return b"".join([
+        spelling.record(records.Header(b"COMDAT")), spelling.record(records.NameList([b"", b"CODE", name])),
+        spelling.framed(0x98, b"\x28\4\0\2\2\1"),
+        spelling.framed(kind, bytes([0, allocation, 1]) + offset + b"\0" + base + b"\3" + bytes(3)),
+        spelling.record(records.ModuleEnd(False, None))])
+
+
 def module_of_cut_public(name):
     """A module whose public has no type index."""
     spelling = records.Spelling()
