@@ -12,27 +12,12 @@ linkers='link tlink wlink'
 # Where programs are unpacked if the repository's folder can't be written to: a folder that this user alone may change.
 set_aside=${TMPDIR:-/tmp}/omf-released-$(id -u)
 
-# Those of some programs that crates.txt has: which_are_there NAMES
-which_are_there() {
+# The programs that crates.txt has: programs
+programs() {
     local each
-    for each in "$@"; do
+    for each in omf doslink doslib; do
         ! grep -q "^$each:" "$top/crates.txt" || echo "$each"
     done
-}
-
-# The programs of which ports are made: programs
-programs() {
-    which_are_there omf doslink
-}
-
-# These, and those of which no port is made yet: all_programs
-all_programs() {
-    which_are_there omf doslink doslib
-}
-
-# Whether ports of a program are made: is_ported PROGRAM
-is_ported() {
-    programs | grep -qx "$1"
 }
 
 # The crates that a program stands on, and itself: crates_of PROGRAM
@@ -153,6 +138,11 @@ unpack() {
     return 1
 }
 
+# Whether release/ports has a program for a port, of sources with this sum: has_port PROGRAM PORT SUM
+has_port() {
+    [ "$(said_of "$1" sources ports/PORTS)" = "$3" ] && [ -n "$(said_of "$1" "$2" ports/PORTS)" ]
+}
+
 # Has the program for this system and processor stand where the released one was unpacked, if it is of sources with this
 # sum: take_port PROGRAM SUM
 take_port() {
@@ -161,8 +151,7 @@ take_port() {
         Darwin) port=macos ;;
         *) port=linux-$(uname -m) ;;
     esac
-    [ "$(said_of "$1" sources ports/PORTS)" = "$2" ] && [ -n "$(said_of "$1" "$port" ports/PORTS)" ] &&
-        unpack "$1" "ports/$1-$port.xz" "$(said_of "$1" "$port" ports/PORTS)"
+    has_port "$1" "$port" "$2" && unpack "$1" "ports/$1-$port.xz" "$(said_of "$1" "$port" ports/PORTS)"
 }
 
 # Unpacks the released program if it is of sources with this sum, and says so. Where it doesn't run here, since the C
@@ -170,11 +159,13 @@ take_port() {
 # it is a static program: take_released PROGRAM SUM
 take_released() {
     [ "$(said_of "$1" sources)" = "$2" ] && unpack "$1" "$1.xz" "$(said_of "$1" sha256)" || return
-    if ! "$unpacked/$1" --version >/dev/null 2>&1 && take_port "$1" "$2"; then
+    if "$unpacked/$1" --version >/dev/null 2>&1; then
+        echo "$1: this is the released program, which was built of these very sources and proved" >&2
+    elif take_port "$1" "$2"; then
         echo "$1: this is the port for this system, made of the module of the released program (docs/PORTS.md)," \
             "which doesn't run here" >&2
     else
-        echo "$1: this is the released program, which was built of these very sources and proved" >&2
+        echo "$1: the released program doesn't run here, and release/ports gives no port of these sources for it" >&2
     fi
 }
 
