@@ -21,13 +21,17 @@ class Comparison(comparison.Comparison):
     def compare(self, seed):
         """One run over the files of a seed; raises a Difference."""
         chance = random.Random(f"{seed} of doslib")
-        files = listings.files(chance, seed)
+        files = [(self.path_of(path), content) for path, content in listings.files(chance, seed)]
         answer, output = comparison.asked(listing.list_files, files), None
         if seed % FAILS_EVERY == 0 and answer.output:
             answer, output = listing.at_failing_output(answer), comparison.FULL_DEVICE
         self.put(files)
         self.counts.ends.update(answer.ends)
         self.run([path for path, _ in files], answer, output)
+
+    def path_of(self, path):
+        """What a path is called here, which may be a system that hasn't all names of files."""
+        return path
 
     def put(self, files):
         """A folder with these files."""
@@ -50,14 +54,14 @@ class Comparison(comparison.Comparison):
         expect("the output", done.stdout or b"", answer.output)
 
 
-def compare_seeds(program, folder, seeds, keeps=False):
+def compare_seeds(program, folder, seeds, keeps=False, kind=Comparison):
     """Compares some seeds; answers the counts and a line for each difference."""
-    return comparison.compare_seeds(program, folder, seeds, keeps, Comparison)
+    return comparison.compare_seeds(program, folder, seeds, keeps, kind)
 
 
-def until_difference(program, folder, seeds):
+def until_difference(program, folder, seeds, kind=Comparison):
     """Compares seeds up to the first difference; answers how many it took, or 0, and a line."""
-    return comparison.until_difference(program, folder, seeds, Comparison)
+    return comparison.until_difference(program, folder, seeds, kind)
 
 
 def lines_of_ends(counts):
