@@ -12,7 +12,7 @@ EXAMPLES = TOP / "examples"
 SECONDS = 120  # of one run
 FULL = "/dev/full"  # what is written there fails
 # the names that each program is called by: by some of them it takes what is written for another linker
-CALLED = {"omf": ("omf",), "doslink": ("doslink", "wlink", "link", "tlink")}
+CALLED = {"omf": ("omf",), "doslink": ("doslink", "wlink", "link", "tlink"), "doslib": ("doslib",)}
 
 
 @dataclass
@@ -121,6 +121,7 @@ def of_examples(program_of):
 
 HELLO = (EXAMPLES / "hello" / "HELLO.OBJ").read_bytes()
 LINK = ["link", "-o", "OUT.EXE"]
+ODD_NAMES = ("a b.obj", "ä Ö ß.obj", "мир.obj", "連結.obj", "é😀.obj")
 # a module that says nothing but its name
 EMPTY = bytes([0x80, 3, 0, 1, 0x41, 0x3B, 0x8A, 2, 0, 0, 0x74])
 
@@ -159,7 +160,7 @@ def of_files():
             ("`.` and `..`", ["link", "-o", "./a/../a/OUT.EXE", "a/../A.OBJ"],
              {"A.OBJ": HELLO, "a/OUT.EXE": b"old"})):
         yield Case(title, "omf", words, files)
-    for name in ("a b.obj", "ä Ö ß.obj", "мир.obj", "連結.obj", "é😀.obj"):
+    for name in ODD_NAMES:
         yield Case(name, "omf", ["link", "-o", f"{name}.exe", "-m", f"{name}.map", name], {name: HELLO})
         yield Case(f"{name} over another", "omf", ["rewrite", name, name], {name: HELLO})
         yield Case(f"{name} isn't there", "omf", ["show", name])
@@ -175,15 +176,21 @@ def of_outputs():
     for words in (["link", "-o", FULL, "A.OBJ"], [*LINK, "-m", FULL, "A.OBJ"], ["rewrite", "A.OBJ", FULL]):
         yield Case(f"{' '.join(words)}", "omf", words, {"A.OBJ": HELLO})
     yield Case("to the device that takes all", "omf", ["link", "-o", "/dev/null", "A.OBJ"], {"A.OBJ": HELLO})
+    for output in ("closed", "unread", FULL):
+        for words in (["list", "A.OBJ"], ["list", "A.OBJ", "B.OBJ"], ["list", "B.OBJ"], ["help"], ["--version"]):
+            yield Case(f"doslib: {' '.join(words)} to {output}", "doslib", words, {"A.OBJ": HELLO}, output)
 
 
-def of_limits(shown, linked):
-    """A disk that takes fewer bytes than there are: one less, half of them, none. `shown` and `linked` are how many
-    bytes `show` and `link` write."""
-    for title, words, output, most in (
-            ("show", ["show", "A.OBJ"], "SHOWN.TXT", shown), ("link", [*LINK, "A.OBJ"], "pipe", linked)):
+def of_limits(length_of):
+    """A disk that takes fewer bytes than there are: one less, half of them, none. `length_of` answers how many bytes
+    a run writes."""
+    for program, words, output in (
+            ("omf", ["show", "A.OBJ"], "SHOWN.TXT"), ("omf", [*LINK, "A.OBJ"], "pipe"),
+            ("doslib", ["list", "A.OBJ"], "LISTED.TXT")):
+        most = length_of(Case("", program, words, {"A.OBJ": HELLO}))
         for left in (most, most - 1, most // 2, 1, 0):
-            yield Case(f"{title}: {left} of {most} bytes", "omf", words, {"A.OBJ": HELLO}, output, left)
+            title = f"{program} {words[0]}: {left} of {most} bytes"
+            yield Case(title, program, words, {"A.OBJ": HELLO}, output, left)
 
 
 def of_doslink():
@@ -224,10 +231,45 @@ def of_doslink():
                variables={"LIB": ""}, input=letters[main])
 
 
-def of_windows(own):
-    """Runs that have words of Windows or DOS, where this is the path of the folder of the run, and the same with words
-    of Linux: pairs of cases, which have to end alike."""
+def of_doslib():
+    """Files that doslib tells of: modules, a library, an archive, damaged ones, those that can't be read, and words."""
     letters = modules_of(EXAMPLES / "letters")
+    files = {"L.LIB": library_of(letters.values()), "L.A": archive(letters), **letters}
+    damaged = {
+        "CUT.LIB": files["L.LIB"][:-20], "BYTE.LIB": with_other_byte(files["L.LIB"]), "PAGE.LIB": b"\xF0\5" + bytes(9),
+        "CUT.A": files["L.A"][:-20], "BYTE.A": with_other_byte(files["L.A"]), "HALF.OBJ": HELLO[:100], "NONE.OBJ": b""}
+    for words in ([], ["help"], ["help", "list"], ["--help"], ["--version"], ["list"], ["lis"], ["list", "--none"],
+                  [""], ["list", ""]):
+        yield Case(f"doslib {words}", "doslib", words)
+    for title, names in (
+            ("each kind", [*files]), ("damaged ones", [*damaged]), ("one twice", ["L.LIB", "L.LIB"]),
+            ("one that isn't there", ["NONE.LIB"]),
+            ("some that aren't there", ["NONE.LIB", "L.LIB", "CUT.A", "NONE.A"]),
+            ("a folder", ["lib"]), ("another folder's", ["lib/L.LIB", "lib/../L.A", "./CUT.LIB"]),
+            ("a file as a folder", ["L.A/L.LIB"]), ("no library", ["TEXT.LIB"])):
+        more = {**damaged, "lib/L.LIB": files["L.LIB"], "TEXT.LIB": b"no library"}
+        yield Case(f"doslib: {title}", "doslib", ["list", *names], {**files, **more})
+    for name in ODD_NAMES:
+        yield Case(f"doslib: {name}", "doslib", ["list", name], {name: files["L.LIB"]})
+        yield Case(f"doslib: {name} isn't there", "doslib", ["list", name])
+    many = {f"{number}.OBJ": EMPTY for number in range(2000)}
+    yield Case("doslib: two thousand words", "doslib", ["list", *many], many)
+    yield Case("doslib: much output", "doslib", ["list", "L.LIB"], {"L.LIB": library_of([HELLO] * 2000)})
+
+
+def respelled(told, words, others):
+    """What doslib says of files, with other words for their paths. Where these are of another number, as `*`, the
+    program has put paths in their place."""
+    for before, after in zip(words, others) if len(words) == len(others) else ():
+        quoted = after.replace("\\", "\\x5C")
+        told = told.replace(f'"{before}"'.encode(), f'"{quoted}"'.encode())
+        told = told.replace(f"doslib: {before}: ".encode(), f"doslib: {after}: ".encode())
+    return told
+
+
+def links_of_windows(letters):
+    """Runs of omf and doslink with words of Windows or DOS: a title, the program, the words, the same of Linux, files,
+    and what LIB is in both. There {folder} is the path of the folder of the run."""
     members, main = list(letters)[1:], list(letters)[0]
     library = archive({name: letters[name] for name in members})
     one, none = {"A.OBJ": HELLO}, {"A.OBJ": HELLO, "a/b": None}
@@ -237,32 +279,54 @@ def of_windows(own):
     many = {**{f"{number:04}.OBJ": EMPTY for number in range(2100)}, "Z.OBJ": HELLO}
     far = 5 * "FAR_AWAY/"
     far_many = {f"{far}{name}": content for name, content in [*many.items()][-1500:]}
-    for title, program, words, same, files, variables in (
-            ("`\\` in OUT", "omf", ["link", "-o", "a\\b\\OUT.EXE", "A.OBJ"],
-             ["link", "-o", "a/b/OUT.EXE", "A.OBJ"], none, ("", "")),
-            ("a drive in OUT", "omf", ["link", "-o", "{folder}\\a\\OUT.EXE", "{folder}\\A.OBJ"],
-             ["link", "-o", "{folder}/a/OUT.EXE", "A.OBJ"], none, ("", "")),
-            ("an older file behind `\\`", "omf", ["rewrite", "A.OBJ", "a\\b\\B.OBJ"], ["rewrite", "A.OBJ", "a/b/B.OBJ"],
-             {**one, "a/b/B.OBJ": b"old"}, ("", "")),
-            ("another case", "omf", [*LINK, "a.obj"], [*LINK, "A.OBJ"], one, ("", "")),
-            ("the device NUL", "omf", ["link", "-o", "NUL", "A.OBJ"], ["link", "-o", "/dev/null", "A.OBJ"], one,
-             ("", "")),
-            ("*.OBJ", "omf", [*LINK, "*.OBJ"], [*LINK, "A.OBJ", "B.OBJ"], {**one, "B.OBJ": EMPTY}, ("", "")),
-            ("*.OBJ by the order of names", "omf", [*LINK, "*.OBJ"], [*LINK, *sorted(letters)],
-             {name: letters[name] for name in sorted(letters, reverse=True)}, ("", "")),
-            ("more than 2,000 files by *.OBJ", "omf", [*LINK, "*.OBJ"], [*LINK, *sorted(many)], many, ("", "")),
-            ("more than 64 KB of names by *.OBJ", "omf", [*LINK, far.replace("/", "\\") + "*.OBJ"],
-             [*LINK, *sorted(far_many)], far_many, ("", "")),
-            ("a folder's ?.OBJ", "omf", [*LINK, "a\\?.OBJ"], [*LINK, "a/X.OBJ"], {"a/X.OBJ": HELLO}, ("", "")),
-            ("a drive in LIB", "doslink", by_library, by_library, folders, ("{folder}\\lib", "{folder}/lib")),
-            ("two folders with drives in LIB", "doslink", by_library, by_library, folders,
-             ("{folder}\\none;{folder}/lib", "{folder}/none:{folder}/lib")),
-            ("a drive behind -L", "doslink", ["-L", "{folder}\\lib", *by_library], ["-L", "lib", *by_library], folders,
-             ("{folder}\\none", "none")),
-            ("a long line in a file", "doslink", ["@WORDS.RSP"], ["@WORDS.RSP"],
-             {**folders, "WORDS.RSP": " ".join(["-L lib", *["-L none"] * 9000, *by_library]).encode()}, ("", ""))):
+    yield from (
+        ("`\\` in OUT", "omf", ["link", "-o", "a\\b\\OUT.EXE", "A.OBJ"],
+         ["link", "-o", "a/b/OUT.EXE", "A.OBJ"], none, ("", "")),
+        ("a drive in OUT", "omf", ["link", "-o", "{folder}\\a\\OUT.EXE", "{folder}\\A.OBJ"],
+         ["link", "-o", "{folder}/a/OUT.EXE", "A.OBJ"], none, ("", "")),
+        ("an older file behind `\\`", "omf", ["rewrite", "A.OBJ", "a\\b\\B.OBJ"], ["rewrite", "A.OBJ", "a/b/B.OBJ"],
+         {**one, "a/b/B.OBJ": b"old"}, ("", "")),
+        ("another case", "omf", [*LINK, "a.obj"], [*LINK, "A.OBJ"], one, ("", "")),
+        ("the device NUL", "omf", ["link", "-o", "NUL", "A.OBJ"], ["link", "-o", "/dev/null", "A.OBJ"], one,
+         ("", "")),
+        ("*.OBJ", "omf", [*LINK, "*.OBJ"], [*LINK, "A.OBJ", "B.OBJ"], {**one, "B.OBJ": EMPTY}, ("", "")),
+        ("*.OBJ by the order of names", "omf", [*LINK, "*.OBJ"], [*LINK, *sorted(letters)],
+         {name: letters[name] for name in sorted(letters, reverse=True)}, ("", "")),
+        ("more than 2,000 files by *.OBJ", "omf", [*LINK, "*.OBJ"], [*LINK, *sorted(many)], many, ("", "")),
+        ("more than 64 KB of names by *.OBJ", "omf", [*LINK, far.replace("/", "\\") + "*.OBJ"],
+         [*LINK, *sorted(far_many)], far_many, ("", "")),
+        ("a folder's ?.OBJ", "omf", [*LINK, "a\\?.OBJ"], [*LINK, "a/X.OBJ"], {"a/X.OBJ": HELLO}, ("", "")),
+        ("a drive in LIB", "doslink", by_library, by_library, folders, ("{folder}\\lib", "{folder}/lib")),
+        ("two folders with drives in LIB", "doslink", by_library, by_library, folders,
+         ("{folder}\\none;{folder}/lib", "{folder}/none:{folder}/lib")),
+        ("a drive behind -L", "doslink", ["-L", "{folder}\\lib", *by_library], ["-L", "lib", *by_library], folders,
+         ("{folder}\\none", "none")),
+        ("a long line in a file", "doslink", ["@WORDS.RSP"], ["@WORDS.RSP"],
+         {**folders, "WORDS.RSP": " ".join(["-L lib", *["-L none"] * 9000, *by_library]).encode()}, ("", "")))
+
+
+def lists_of_windows(letters):
+    """The same of doslib."""
+    one, no_library = {"A.OBJ": HELLO}, ("", "")
+    yield from (
+        ("`\\` and a drive", "doslib", ["list", "a\\b\\A.OBJ", "{folder}\\A.OBJ"],
+         ["list", "a/b/A.OBJ", "./A.OBJ"], {**one, "a/b/A.OBJ": HELLO}, no_library),
+        ("`\\` and a drive where nothing is", "doslib", ["list", "a\\A.OBJ", "{folder}\\B.OBJ"],
+         ["list", "a/A.OBJ", "./B.OBJ"], one, no_library),
+        ("another case", "doslib", ["list", "a.obj"], ["list", "A.OBJ"], one, no_library),
+        ("the device NUL", "doslib", ["list", "NUL"], ["list", "/dev/null"], one, no_library),
+        ("*.OBJ by the order of names", "doslib", ["list", "*.OBJ"], ["list", *sorted(letters)],
+         {name: letters[name] for name in sorted(letters, reverse=True)}, no_library))
+
+
+def of_windows(own):
+    """Runs that have words of Windows or DOS, where this is the path of the folder of the run, and the same with words
+    of Linux: pairs of cases, which have to end alike."""
+    letters = modules_of(EXAMPLES / "letters")
+    for title, program, words, same, files, variables in (*links_of_windows(letters), *lists_of_windows(letters)):
         yield tuple(
-            Case(f"words of Windows: {title}", program, [word.replace("{folder}", folder) for word in given], files,
+            Case(f"{program}: words of Windows: {title}", program,
+                 [word.replace("{folder}", folder) for word in given], files,
                  variables={"LIB": value.replace("{folder}", folder)})
             for given, value, folder in ((words, variables[0], own), (same, variables[1], ".")))
 
@@ -279,10 +343,10 @@ def with_default_library(module, name):
     return module[:first] + record(0x88, b"\0\x9F" + name) + module[first:]
 
 
-def large():
-    """A module of 24 MB: a segment of 1,000 bytes, and what it holds, again and again."""
+def large(thousands):
+    """A module of so many thousand bytes: a segment of 1,000 bytes, and what it holds, again and again."""
     front = record(0x80, b"\1A") + record(0x96, b"\0\4CODE") + record(0x98, b"\x28\xE8\3\2\2\1")
-    return front + record(0xA0, b"\1\0\0" + bytes(1000)) * 24_000 + record(0x8A, b"\0")
+    return front + record(0xA0, b"\1\0\0" + bytes(1000)) * thousands + record(0x8A, b"\0")
 
 
 def module_of_bytes(length):
@@ -292,6 +356,18 @@ def module_of_bytes(length):
     return b"".join((
         record(0x80, b"\1A"), record(0x96, b"\0\4CODE"), record(0x98, segment),
         record(0xA0, b"\1\0\0" + content), record(0x8A, b"\0")))
+
+
+def library_of(modules):
+    """A .LIB of these modules, with pages of 16 bytes and without a dictionary."""
+    members = b"".join(content + bytes(-len(content) % 16) for content in modules)
+    return record(0xF0, bytes(12)) + members + record(0xF1, bytes(12))
+
+
+def with_other_byte(content):
+    """A file of which the middle byte is another."""
+    middle = len(content) // 2
+    return content[:middle] + bytes([content[middle] ^ 0x55]) + content[middle + 1:]
 
 
 def archive(members):
