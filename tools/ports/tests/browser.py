@@ -26,7 +26,7 @@ FAULTS = cases.TOP / "docs" / "FAULTS.md"
 LINES = {
     "The program links and does something else than you wrote, or a warning says that no module has a start or no "
     "module has a stack.": ("doslink: warning: no module has a start", "doslink: warning: no module has a stack"),
-    "omf: memory, doslink: memory.": ("omf: memory", "doslink: memory"),
+    "omf: memory, doslink: memory, doslib: memory.": ("omf: memory", "doslink: memory", "doslib: memory"),
     "A name is missing.": ('doslink: A.OBJ: "_x" is missing: record 145 (00000091), wanted by "a.c"',),
     "A warning: a library was not found.": ("doslink: warning: library CLIB of A.OBJ was not found",),
     "A directive or an option, told with line N:": (
@@ -112,6 +112,8 @@ def jobs(linked):
             ("2,001 modules", many, ["omf", "link", "-o", "OUT.EXE", *many]),
             ("a library", library, ["doslink", "-v", "-o", "OUT.EXE", "-m", "OUT.MAP", main, "L.LIB"]),
             ("missing names", library, ["doslink", "-o", "OUT.EXE", main]),
+            ("what files hold", library, ["doslib", "list", *library]),
+            ("a damaged archive", {"A.LIB": library["L.LIB"][:-9]}, ["doslib", "list", "A.LIB"]),
             *lines_of_doslink(main, letters)):
         outcome = linked(words, files)
         if outcome is not None:

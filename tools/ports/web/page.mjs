@@ -5,6 +5,7 @@ const at = id => document.getElementById(id);
 const data = JSON.parse(at('data').textContent);
 const files = new Map(); // bytes by names, in the order of the list
 const programs = new Map(); // compiled modules by names
+const lister = 'doslib'; // the program that links nothing
 const urls = []; // of what was made, which are given back at the next run
 const decoder = new TextDecoder();
 let isByHand = false; // whether the words were changed by hand
@@ -132,7 +133,7 @@ function showMade(before, { files: after, written }) {
 
 /** Runs a program with these words, its name first, and shows what came of it. */
 async function runWords([name, ...words]) {
-    const program = name === 'omf' ? 'omf' : 'doslink';
+    const program = ['omf', lister].includes(name) ? name : 'doslink';
     at('status').textContent = 'It runs.';
     at('result').hidden = false;
     let done;
@@ -168,7 +169,8 @@ function takeExample() {
 
 function start() {
     for (const name of Object.keys(data.examples)) at('example').append(element('option', { textContent: name }));
-    for (const name of Object.keys(data.programs)) at('program').append(element('option', { textContent: name }));
+    const linkers = Object.keys(data.programs).filter(name => name !== lister);
+    for (const name of linkers) at('program').append(element('option', { textContent: name }));
     at('choose').onchange = () => take(at('choose').files);
     at('example').onchange = takeExample;
     at('clear').onclick = () => {
