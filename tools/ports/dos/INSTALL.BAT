@@ -5,6 +5,7 @@ if not exist OMF.EXE goto usage
 if not exist %1\NUL md %1
 copy OMF.EXE %1
 copy DOSLINK.EXE %1
+if exist DOSLIB.EXE copy DOSLIB.EXE %1
 rem DOSLINK by the names of other linkers, in a folder of their own
 if not exist %1\LINKERS\NUL md %1\LINKERS
 copy DOSLINK.EXE %1\LINKERS\LINK.EXE
