@@ -11,6 +11,7 @@ use doslink_jobs::{
 };
 use omf_files::BufferedSink;
 use omf_frame::{Sink, WriteSink};
+use std::alloc::AllocError;
 use std::env::{self, VarError};
 use std::io::{ErrorKind, Write};
 use std::process::ExitCode;
@@ -71,6 +72,14 @@ fn library_list(rt: &HostRuntime, language: Language) -> Result<String, VarError
     }
 }
 
+// The folders of the environment's LIB: none where it is empty.
+fn folders_in<'l>(rt: &HostRuntime, list: &'l str) -> Result<Vec<&'l str>, AllocError> {
+    match list {
+        "" => Ok(Vec::new(rt.alloc())),
+        list => library_folders(rt.alloc(), list),
+    }
+}
+
 // Does what the program's name and the words after it ask for, and hands out the exit status.
 fn run_arguments<O: Write + Drop, E: Sink>(
     rt: &HostRuntime,
@@ -95,7 +104,7 @@ fn run_arguments<O: Write + Drop, E: Sink>(
         Ok(list) => list,
         Err(_) => return out_of_memory(errors),
     };
-    match library_folders(rt.alloc(), list.as_str()) {
+    match folders_in(rt, list.as_str()) {
         Ok(folders) => {
             let environment = Environment {
                 folders: &folders,
