@@ -1192,7 +1192,6 @@ LINKING = [
            "for means, alias in job.aliases"),
     Change("a start may have any length", "directives.py", "job.start = name_of_module(value)", "job.start = value"),
     Change("references may have any length", "directives.py", "map(name_of_module, names(tokens))", "names(tokens)"),
-    Change("a start is shortened as a stack is", "directives.py", '"start": 4', '"start": 2'),
     Change("the record of a missing name isn't told in hexadecimal digits", "linking.py",
            'f": record {place} ({place:08X})"', 'f": record {place}"'),
     Change("the title of who wants a missing name isn't told", "linking.py",
@@ -1405,6 +1404,8 @@ DIRECTIVES = [
            "        for place in places[::-1]:\n            self.check"),
     Change("a default library of two names is absent", "linking.py",
            "if path is None and why == TWO_NAMES:", "if False:"),
+    Change("a default library's name is told whole", "linking.py",
+           'printed_name(name[:LONGEST_NAME]) + (".." if len(name) > LONGEST_NAME else "")', "printed_name(name)"),
     Change("a default library has a name of any length", "linking.py",
            " if len(name) <= LONGEST_NAME else []", ""),
 

@@ -2,6 +2,7 @@
 
 from dataclasses import dataclass, field, replace
 from itertools import groupby
+from random import Random
 from typing import Optional
 
 from generator.communals import (
@@ -17,11 +18,12 @@ from generator.libraries import (
 from generator.objects import (
     CLASSES, LAZY, MARKS, NAMES, SEGMENTS, TITLES, WEAK, ObjectMaker, any_plan, module_of_alias,
     module_of_code, module_of_communal_data, module_of_cut_public, module_of_debug,
-    module_of_default, module_of_edge, module_of_external, module_of_far_data, module_of_flat,
-    module_of_form, module_of_lengths, module_of_links, module_of_local_defaults,
-    module_of_long_aliases, module_of_long_externals, module_of_many_parts, module_of_marks,
-    module_of_no_alignment, module_of_publics, module_of_shared_word, module_of_stack,
-    module_of_start, module_of_sum, module_of_wide_record, module_of_wide_segment, segments_called)
+    module_of_default, module_of_edge, module_of_external, module_of_far_data, module_of_far_public,
+    module_of_far_start, module_of_flat, module_of_form, module_of_lengths, module_of_links,
+    module_of_local_defaults, module_of_long_aliases, module_of_long_externals,
+    module_of_many_parts, module_of_marks, module_of_no_alignment, module_of_publics,
+    module_of_shared_word, module_of_stack, module_of_start, module_of_sum, module_of_wide_record,
+    module_of_wide_segment, segments_called)
 from model import ordering
 from model.directives import Form, Input, Job, Stack
 from model.placement import folded
@@ -552,19 +554,39 @@ class JobMaker:
         self.folders, self.job.folders = [], ["lib"]
         return self.case(self.words(), "doslink")
 
-    def make_default_misplaced(self):
-        """A default library that stands in a folder of modules alone."""
-        self.files["0.obj"] = module_of_links([], [b"f"], b"FIRST")
-        self.files["sub/FIRST.LIB"] = library(self.random, [module_of_links([b"f"], [], b"")], SMALL_PAGES)
-        self.give("0.obj")
-        self.folders, self.job.object_folders, self.has_lines = [], ["sub"], False
-        return self.by_directives()
+    def make_of_files(self, files, *words):
+        """These files, and words of directives."""
+        self.files.update(files)
+        self.folders = []
+        return self.case(list(words), WLINK)
 
-    def make_mixed_there(self, out, map_path):
-        """What is linked is told on standard output, which the program or its map is too, by the path of a device."""
+    def make_by_words(self, files, *names):
+        """These files, of which some are named."""
+        self.files.update(files)
+        for name in names:
+            self.give(name)
+        self.folders = []
+        return self.case(self.words(), "doslink")
+
+    def make_driver_in_order(self):
+        """A driver in the order in which other programs have null bytes."""
+        self.files["0.obj"], self.folders = module_of_form(0, 3, 0x100, []), []
+        self.give("0.obj")
+        self.job.form, self.job.out = Form("sys"), "o.sys"
+        self.job.order, self.job.has_null_bytes = ordering.DOSSEG, True
+        return self.case(self.words(), "doslink")
+
+    def make_packed(self, front, segments, behind):
+        """Far data by directives, with other modules in front of it and behind."""
+        far = [module_of_far_data(number, *segment) for number, segment in enumerate(segments)]
+        files = {f"{number}.obj": content for number, content in enumerate([*front, *far, *behind])}
+        return self.make_of_files(files, f"file {','.join(files)} name {OUT} option map={MAP}")
+
+    def make_mixed_there(self, out, map_path, lists):
+        """The program, its map and the list of what is linked, of which two are on standard output."""
         self.files["0.obj"] = module_of_publics([b"x"])
         self.give("0.obj")
-        self.folders, self.job.is_verbose, self.job.out, self.job.map = [], True, out, map_path
+        self.folders, self.job.is_verbose, self.job.out, self.job.map = [], lists, out, map_path
         return self.case(self.words(), "doslink")
 
     def make_later(self):
@@ -1341,6 +1363,23 @@ class JobMaker:
         words = ["/NOD:" + self.random.choice(["slibce", "SLIBCE.LIB", "other", "slibce.lib", "SLIB"])]
         return self.by_line(LINK, words)
 
+    def make_all_left_out(self):
+        """A default library that isn't there, and the option that leaves out all."""
+        self.files["0.obj"], self.folders = module_of_links([], [], b"SLIBCE"), []
+        self.give("0.obj")
+        return self.by_line(LINK, ["/NOD"])
+
+    def make_whole_part(self):
+        """A detailed map of a segment that is as long as its offsets reach."""
+        self.files["0.obj"], self.folders = module_of_form(0, 0xFF00, None, []), []
+        return self.case(["0,out,list/s;"], TLINK)
+
+    def make_defined_over(self):
+        """A program in the place of its file of definitions."""
+        self.files["0.obj"], self.folders = module_of_publics([b"x"]), []
+        self.files["defs.def"] = b"NAME x\n"
+        return self.case(["0,defs.def,nul,,defs;"], LINK)
+
     def make_of_lib(self, language, line):
         """A library in LIB's folder, which a line names, or only a module."""
         self.files["0.obj"], self.folders = module_of_links([], [b"x"], b"L"), [LAST_FOLDER]
@@ -1715,6 +1754,34 @@ MADE_BY_LINES = [
         ("link",), (LINK, "/LI"), ("tlink",), (TLINK, "/l"), ("omf",), (LINK, "/LINENUM"), (TLINK, "/l/m")])),
 ]
 
+# files with directives that are rare: an option that is cut too short, folders of libraries between `;`, and a
+# default library that stands in a folder of modules alone, has two names that differ by case alone, or is called as the
+# module is of what directives say of names
+# of what directives say of names
+OF_FIRST = module_of_links([], [b"f"], b"FIRST")
+FIRST = library(Random(1), [module_of_links([b"f"], [], b"")], SMALL_PAGES)
+OF_FILES = [
+    ({"0.obj": module_of_publics([b"x"])}, "option no"),
+    ({"0.obj": OF_FIRST, "lib/FIRST.LIB": FIRST}, "libpath none;lib"),
+    ({"0.obj": OF_FIRST, "sub/FIRST.LIB": FIRST}, "path sub"),
+    ({"0.obj": module_of_links([], [b"f"], b"First"), "FIRST.LIB": FIRST, "first.lib": FIRST}, ""),
+    ({"0.obj": module_of_links([], [b"f"], b"directives"), "directives": FIRST}, "reference f")]
+# programs in folders, by the name of a file in another one, and by none where standard input is read, which is empty
+IN_FOLDERS = [
+    ({"obj/0.obj": module_of_publics([b"x"]), "sub/x": b""}, "file obj/0.obj name sub/"),
+    ({"sub/OUT.exe": module_of_publics([b"x"]), "-": b""}, "file - name sub/")]
+# two files that are no modules, and a default library whose name is too long, though a file is there
+BY_WORDS = [
+    ({"0.obj": b"\x7FELF\1\1\1\0", "1.obj": b"MZ\x90\0"}, "0.obj", "1.obj"),
+    ({"0.obj": module_of_links([], [b"f"], 126 * b"./" + b"FIRST"), "FIRST.LIB": FIRST}, "0.obj")]
+# far data by the frame of its segment, also behind the first; in a group of its own; as a stack; behind eight bytes of
+# code; with a public of another group; and with the start
+PACKED = [
+    ([], 6 * [(3, 0x20)], []), ([], [(3, 0x20), *4 * [(3, 0x20, 0, b"FAR", True)]], []),
+    ([], [(3, 0x20), (3, 0x100, 5)], []),
+    ([module_of_publics([b"%d" % number for number in range(8)])], [(1, 0xFF00), (1, 0xF9)], []),
+    ([], [(3, 0x20)], [module_of_far_public()]), ([], [(3, 0x20)], [module_of_far_start()])]
+
 # what takes turns of its own: lines, and words of directives that all others take turns with
 MORE_LINES = [
     *[(JobMaker.make_odd_line, line, TLINK) for line in MORE_LINES_OF_TLINK],
@@ -1723,14 +1790,20 @@ MORE_LINES = [
     *[(JobMaker.make_map, TLINK, options) for options in ("/s", "/s/l", "/l/s", "/s/m", "/s", "/s")],
     *[(JobMaker.make_paged, page) for page in (8, 16, 32_768, 65_536)],
     *[(JobMaker.make_communal_data, kind, allocation) for kind in (0xC2, 0xC3) for allocation in (0, 1)],
-    (JobMaker.make_later,)]
+    (JobMaker.make_later,), (JobMaker.make_all_left_out,), (JobMaker.make_defined_over,),
+    (JobMaker.make_cases, TLINK, False, ["/c/c-"]), (JobMaker.make_whole_part,)]
 MORE_WORDS = [
     *[(JobMaker.make_spoken, *words) for words in SPOKEN_WORDS],
     *[(JobMaker.make_by_dos, *words) for words in BY_DOS_WORDS],
     *[(JobMaker.make_debug, name, keeps) for name in (b"DEBTYP", b"DWARF") for keeps in (True, False)],
-    (JobMaker.make_misplaced,), (JobMaker.make_default_misplaced,)]
+    (JobMaker.make_misplaced,), (JobMaker.make_driver_in_order,),
+    *[(JobMaker.make_of_files, files, f"file 0.obj name {OUT} {more}") for files, more in OF_FILES],
+    *[(JobMaker.make_of_files, *each) for each in IN_FOLDERS],
+    *[(JobMaker.make_by_words, files, *names) for files, *names in BY_WORDS],
+    *[(JobMaker.make_packed, *modules) for modules in PACKED]]
 MORE_ON_DEVICES = [
-    (JobMaker.make_mixed_there, "/dev/stdout", None), (JobMaker.make_mixed_there, OUT, "/dev/stdout")]
+    (JobMaker.make_mixed_there, "/dev/stdout", None, True), (JobMaker.make_mixed_there, OUT, "/dev/stdout", True),
+    (JobMaker.make_mixed_there, "-", "/dev/stdout", False)]
 
 
 def more_case(random, turn, has_words=True, has_devices=True):

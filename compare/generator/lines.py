@@ -93,7 +93,8 @@ MORE_LINES_OF_TLINK = [
 # lines of LINK, whose /TINY is of .COM files alone
 MORE_LINES_OF_LINK = [
     "flat,out.bin/T", "flat,out.x /TINY;", "com,out.bin/t", "com,out /Tin",
-    "OBJECT /CO,,,,defs", "/E /CO OBJECT,,,,defs;", "OBJECT,out/co,nul,,defs /E", "/EXE OBJECT,,,,defs"]
+    "OBJECT /CO,,,,defs", "/E /CO OBJECT,,,,defs;", "OBJECT,out/co,nul,,defs /E", "/EXE OBJECT,,,,defs",
+    "OBJECT /HE;", "/HEL OBJECT;"]
 # lines that name files of definitions, and what such a file has
 LINES_OF_DEFINITIONS = [
     "OBJECT,,,,defs", "OBJECT,out,list,,defs.def/m", 'OBJECT,,,,"defs"', "OBJECT,,,,Defs.Def;", "OBJECT,,,,./defs",

@@ -878,6 +878,28 @@ def module_of_wide_record(kind, body):
         spelling.record(records.ModuleEnd(False, None))])
 
 
+def module_of_far_public():
+    """A module of far data whose public counts from a group of other data, and that has its frame."""
+    reference = Reference(Direct(Method.TARGET), Direct(Method.EXTERNAL, 1), None)
+    made = [
+        records.Header(b"OTHER"), records.NameList([b"", b"FAR_DATA", b"FAR", b"DATA", b"_DATA", b"DGROUP"]),
+        records.SegmentDefinition(3, 0, 0x20, 3, 2, 1), records.SegmentDefinition(2, 2, 4, 5, 4, 1),
+        records.GroupDefinition(6, [2]), records.ExternalNames([b"far"], [0]),
+        records.PublicNames(1, 1, None, [PublicName(b"far", 1, 0)]), records.Data(1, 0, bytes(4)),
+        records.FixupRecord([Fixup(True, Location.BASE, 0, reference)]), records.ModuleEnd(False, None)]
+    return b"".join(map(records.Spelling().record, made))
+
+
+def module_of_far_start():
+    """A module of far data in which its start is."""
+    segment = Direct(Method.SEGMENT, 1)
+    made = [
+        records.Header(b"STARTS"), records.NameList([b"", b"FAR_DATA", b"FAR"]),
+        records.SegmentDefinition(3, 0, 0x20, 3, 2, 1), records.Data(1, 0, bytes(4)),
+        records.ModuleEnd(True, Reference(segment, segment, 2))]
+    return b"".join(map(records.Spelling().record, made))
+
+
 def module_of_debug(class_name):
     """A module with code, and with a segment of a class for debuggers."""
     made = [

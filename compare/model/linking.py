@@ -179,6 +179,11 @@ def is_foreign(content):
     return libraries.kind_of_file(content) == "object" and not content.startswith(foreign.HEADERS)
 
 
+def told_name(name):
+    """The name of a library, of which so many bytes are told at most."""
+    return printed_name(name[:LONGEST_NAME]) + (".." if len(name) > LONGEST_NAME else "")
+
+
 def why_unread(paths, files):
     """What is said where there is a file at none of some paths: of the last one where there is something else."""
     is_folder, has_two, lacks_drive = (
@@ -361,7 +366,7 @@ class Linking:
             raise Stop(NO_DEVICE, 1, [f"{name.decode()}: 1 Device at record 0: {why}"])
         if path is None:
             self.absent.append(
-                f"{PROGRAM}: warning: library {printed_name(name)} of {word} was not found\n")
+                f"{PROGRAM}: warning: library {told_name(name)} of {word} was not found\n")
         elif self.place(path) not in map(self.place, self.read_paths()):
             self.add(path)
 
