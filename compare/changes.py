@@ -13,6 +13,7 @@ from dataclasses import dataclass
 from pathlib import Path
 
 import comparison
+import reaching
 
 HERE = Path(__file__).resolve().parent
 
@@ -36,6 +37,12 @@ class Change:
     def make(self, folder):
         """Makes the change in a copy of this folder."""
         (folder / "model" / self.file).write_text(self.made(folder))
+
+    def lines(self):
+        """The lines of the model where its text stands, each with the file's name."""
+        before, _, _ = (HERE / "model" / self.file).read_text().partition(self.old)
+        first = before.count("\n") + 1
+        return [(self.file, first + line) for line in range(self.old.strip("\n").count("\n") + 1)]
 
 
 READING = [
@@ -308,8 +315,8 @@ def check_texts(some):
             raise ValueError(f"{change.title}: another change has this title")
 
 
-def seeds_until_found(kind, program, change):
-    """In how many seeds a change makes its first difference, and the difference; 0 for none.
+def first_difference(kind, program, change, seeds):
+    """The first of some seeds in which a change makes a difference, and the difference; None for none.
 
     It is looked for by a command line of some kind, which driving.py describes.
     """
@@ -320,28 +327,35 @@ def seeds_until_found(kind, program, change):
         shutil.copy(HERE.parent / "docs" / "faults.txt", Path(folder) / "docs")
         change.make(copy)
         done = subprocess.run(
-            [sys.executable, copy / kind.name, *kind.words, "--program", program,
-             "--count", str(kind.most_seeds), "--until-difference"],
-            stdout=subprocess.PIPE, text=True, check=False)
+            [sys.executable, copy / kind.name, *kind.words, "--program", program, "--until-difference"],
+            input="\n".join(map(str, seeds)), stdout=subprocess.PIPE, text=True, check=False)
     if done.returncode not in (0, 1):
         raise ValueError(f"{change.title}: the changed model failed")
-    number, _, difference = done.stdout.strip().partition(" ")
-    return int(number), difference
+    return done.stdout.strip() or None
 
 
 def try_all(kind, program, chosen, jobs):
-    """Tries each of some changes; answers how many made no difference.
+    """Tries each of some changes, first in the seeds that run its lines; answers how many made no difference.
 
     Where the changed model itself fails that is told: it says little of the rule.
     """
-    missed = 0
+    missed, seeds, files = 0, range(kind.most_seeds), {change.file for change in chosen}
+    reached = reaching.seeds_of_lines(kind.comparison, program, files, seeds, jobs)
+
+    def tried(change):
+        return first_difference(kind, program, change, reaching.reaching_first(change.lines(), reached, seeds))
+
     with concurrent.futures.ThreadPoolExecutor(jobs) as pool:
-        tried = pool.map(lambda change: seeds_until_found(kind, program, change), chosen)
-        for change, (number, difference) in zip(chosen, tried):
-            fails = comparison.MODEL_FAILED in difference
-            missed += number == 0
-            answer = f"found in {number:,}" if number else f"not found in {kind.most_seeds:,}"
-            answer = f"fails in {number:,}" if fails else answer
-            print(f"{answer:>20}  {change.file:16} {change.title}", flush=True)
-    print(f"{len(chosen):,} changes, not found: {missed:,}")
+        for change, difference in zip(chosen, pool.map(tried, chosen)):
+            missed += difference is None
+            print(f"{answer_of(difference):>20}  {change.file:16} {change.title}", flush=True)
+    print(f"{len(chosen):,} changes, not found in {kind.most_seeds:,} seeds: {missed:,}")
     return missed
+
+
+def answer_of(difference):
+    """How a change was found: by the seed of its difference, or not at all."""
+    if difference is None:
+        return "not found"
+    seed, _, _ = difference.partition(":")
+    return f"{'fails' if comparison.MODEL_FAILED in difference else 'found'} in {seed}"

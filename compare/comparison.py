@@ -276,17 +276,6 @@ def compare_long_inputs(program, folder):
     return comparison.counts, differences
 
 
-def until_difference(program, folder, seeds, kind=Comparison):
-    """Compares seeds up to the first difference; answers how many it took, or 0, and a line."""
-    comparison = kind(program, Path(folder))
-    for taken, seed in enumerate(seeds, 1):
-        try:
-            comparison.compare(seed)
-        except Difference as difference:
-            return taken, [f"seed {seed}: {difference}"]
-    return 0, []
-
-
 COMMANDS = ["link", "load", "show", "check", "rewrite"]
 
 

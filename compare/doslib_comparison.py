@@ -59,11 +59,6 @@ def compare_seeds(program, folder, seeds, keeps=False, kind=Comparison):
     return comparison.compare_seeds(program, folder, seeds, keeps, kind)
 
 
-def until_difference(program, folder, seeds, kind=Comparison):
-    """Compares seeds up to the first difference; answers how many it took, or 0, and a line."""
-    return comparison.until_difference(program, folder, seeds, kind)
-
-
 def lines_of_ends(counts):
     """A table of how many files of each kind had which first fault."""
     found = {number for _, number in counts.ends if number}

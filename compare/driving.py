@@ -70,11 +70,13 @@ def compare_all(kind, program, seeds, jobs):
 
 
 def until_difference(kind, program, seeds):
-    """Compares seeds up to the first difference, and prints how many it took, or 0 for none."""
-    with tempfile.TemporaryDirectory(prefix="omf-compare-") as folder:
-        taken, differences = kind.comparison.until_difference(program, folder, seeds)
-    print(taken, *differences)
-    return differences
+    """Compares seeds up to the first difference, and prints that, or nothing."""
+    for seed in seeds:
+        _, differences = compare_in_new_folder(kind.comparison.__name__, program, [seed])
+        if differences:
+            print(*differences)
+            return differences
+    return []
 
 
 def keep(kind, program, seed, folder):
@@ -106,7 +108,7 @@ def run(kind, arguments, program):
     """Does what is asked for; answers whether anything differs."""
     seeds = range(arguments.first, arguments.first + arguments.count)
     if arguments.until_difference:
-        return until_difference(kind, program, seeds)
+        return until_difference(kind, program, map(int, sys.stdin))
     kind.check_worked()
     changes.check_texts(kind.changes)
     if arguments.changed is not None:

@@ -22,8 +22,3 @@ class Comparison(doslink_comparison.Comparison):
 def compare_seeds(program, folder, seeds, keeps=False):
     """Compares some seeds; answers the counts and a line for each difference."""
     return doslink_comparison.compare_seeds(program, folder, seeds, keeps, Comparison)
-
-
-def until_difference(program, folder, seeds):
-    """Compares seeds up to the first difference; answers how many it took, or 0, and a line."""
-    return doslink_comparison.until_difference(program, folder, seeds, Comparison)
