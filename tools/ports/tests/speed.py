@@ -1,4 +1,4 @@
-"""The processor time of ports beside that of the programs that were proved, for some links."""
+"""The processor time of ports beside that of the programs that were proved, for some links and a list."""
 
 import os
 import subprocess
@@ -11,13 +11,23 @@ sys.path.insert(0, str(cases.TOP / "bench"))
 import generate  # noqa: E402
 
 TIMES = 12  # runs, of which the shortest counts
-LINKS = [  # a title, the program, what makes its inputs, and how many
+
+
+def listed_library(count):
+    """A library of a number of members, to be listed."""
+    return generate.Inputs([generate.library_of_names(count)], 0, 0)
+
+
+RUNS = [  # a title, the program, what makes its inputs, and how many
     ("2,001 modules", "omf", generate.calling_modules, 2001),
     ("200,000 fix-ups", "omf", generate.fixups_to_names, 200_000),
     ("50,000 publics and externals", "omf", generate.many_names, 50_000),
     ("300 self-relative fix-ups to 32,767 copies", "omf", generate.self_relative_fixups, 300),
     ("a library of 2,400 members", "doslink", generate.library_of_callers, 2400),
+    ("a library of 6,500 members", "doslib", listed_library, 6500),
 ]
+# what stands in front of the files of each program
+COMMANDS = {"omf": ["link", "-o", "out"], "doslink": ["-o", "out"], "doslib": ["list"]}
 
 
 def seconds(words, folder):
@@ -40,7 +50,7 @@ def least_seconds(commands, folder):
 
 
 def put_inputs(make, count, folder):
-    """Writes the inputs of a link to a new folder, and answers its words."""
+    """Writes the inputs of a run to a new folder, and answers its words."""
     inputs = make(count)
     folder.mkdir(parents=True)
     modules = {f"{number:05}": content for number, content in enumerate(inputs.modules)}
@@ -50,19 +60,18 @@ def put_inputs(make, count, folder):
 
 
 def table(folders, room):
-    """Prints a row for each link: the time of a run that only starts, and of that link without it, for the programs of
+    """Prints a row for each run: the time of one that only starts, and of that run without it, for the programs of
     each folder by its title, the first of which are those that were proved."""
     starts = {}
     print(f"| What | {' | '.join(folders)} |\n|---{'|---' * len(folders)}|")
-    for title, name, make, count in LINKS:
+    for title, name, make, count in RUNS:
         folder = Path(room) / title.replace(" ", "-")
         words = put_inputs(make, count, folder)
         there = {port: programs / name for port, programs in folders.items() if (programs / name).exists()}
         if name not in starts:
             starts[name] = least_seconds({port: [program, "--version"] for port, program in there.items()}, folder)
-        link = ["link"] if name == "omf" else []
         took = least_seconds(
-            {port: [program, *link, "-o", "out", *words] for port, program in there.items()}, folder)
+            {port: [program, *COMMANDS[name], *words] for port, program in there.items()}, folder)
         net = {port: took[port] - starts[name][port] for port in there}
         first = net[next(iter(there))]
         cells = [f"{net[port]:.3f} ({net[port] / first:.2f})" if port in net else "" for port in folders]
