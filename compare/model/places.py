@@ -47,6 +47,10 @@ class Places(dict):
         """Whether a file can be written at a path: in a folder that is there, and in the place of none."""
         return self.has_folders(path) and not self.is_folder(path)
 
+    def as_new(self, name):
+        """What the names of one file have in common that isn't there yet: by names of DOS, all but the case."""
+        return small(name)
+
 
 class PlacedFiles(Places):
     """Files of which each path that leads to one finds it."""
@@ -67,6 +71,9 @@ class UnlistedFiles(PlacedFiles):
 
     def names_in(self, front):
         return ()
+
+    def as_new(self, name):
+        return name
 
 
 def same_name(path):
@@ -171,6 +178,7 @@ class DosFiles:
         return join(self.place(folder or HERE), name)
 
     def becomes(self, path):
-        """What paths to one file have in common once it is written: what isn't there yet is one in whatever case."""
+        """What paths to one file have in common once it is written: what isn't there yet is one in whatever case, but
+        as it is written where folders can't be listed."""
         folder, name = split(self.place(path))
-        return self.place(path) if self.get(path) is not None else join(folder, small(name))
+        return self.place(path) if self.get(path) is not None else join(folder, self.files.as_new(name))
