@@ -9,14 +9,14 @@ use Rattle.std.specs.Borrow.{Bor}
 use Rattle.std.specs.List.{enumerate_from, flat_map, list_any}
 use Rattle.omf_place.specs.Names.{agrees}
 use Rattle.omf_place.specs.declared.names.Names.{Names}
-use Rattle.omf_communal.specs.declared.key.Key.{Key}
+use Rattle.omf_keys.specs.declared.key.Key.{Key}
 use Rattle.omf_communal.specs.declared.declarations.Declaring.{Declaring}
 use Rattle.omf_communal.specs.declared.declarations.Communal as lent
 use Rattle.omf_communal.specs.Modules.{Declared, Module, all_declared, bytes_of, declared_at, declared_of, is_offered}
 use Rattle.omf_communal.specs.Modules.{module_said, offers}
 use Rattle.omf_communal.specs.Reading.{Communal, plain_communal}
-use Rattle.omf_communal.specs.inside.Keys.{key_of, same_key}
-use Rattle.omf_communal.proofs.Agreeing.{keys_agree, names_agree}
+use Rattle.omf_keys.specs.Keys.{key_of, same_key}
+use Rattle.omf_keys.proofs.Agreeing.{keys_agree, names_agree}
 
 -- one more of the elements of a list, under a map
 pub map_more : {X Y : Type 0} (f : X → Y) (xs : List X) (i : ℕ) (d : X) → i < length xs

@@ -14,13 +14,14 @@ use Rattle.omf_place.specs.Names.{agrees}
 use Rattle.omf_place.specs.declared.names.Names.{Names}
 use Rattle.omf_communal.specs.declared.fault.ClashFault.{ClashFault}
 use Rattle.omf_communal.specs.declared.fault.ClashFault.TheVariants.{ElementSizes, NearAndFar, Memory}
-use Rattle.omf_communal.specs.declared.key.Key.{Key}
+use Rattle.omf_keys.specs.declared.key.Key.{Key}
 use Rattle.omf_communal.specs.declared.declarations.Declared as lent
 use Rattle.omf_communal.specs.Modules.{Declared}
 use Rattle.omf_communal.specs.Deciding.{IsClash, Variable, fresh, meet, met, widened}
-use Rattle.omf_communal.specs.inside.Keys.{key_of, same_key}
+use Rattle.omf_keys.specs.Keys.{key_of, same_key}
 use Rattle.omf_communal.specs.inside.Met.{declared_said, place_from, place_of}
-use Rattle.omf_communal.proofs.Agreeing.{keys_agree, names_agree, same_value}
+use Rattle.omf_keys.proofs.Agreeing.{keys_agree, names_agree}
+use Rattle.omf_communal.proofs.Agreeing.{same_value}
 
 module _ (names : Names) (d : Declared) where
   abbrev test : Variable → Bool

@@ -17,7 +17,7 @@ use Rattle.omf_communal.specs.declared.declarations.Whose.{Whose}
 use Rattle.omf_communal.specs.Modules.{Declared, wanted}
 use Rattle.omf_communal.specs.Deciding.{Variable, fresh, greater, meet, met, widened}
 use Rattle.omf_communal.specs.Once.{Any, HaveOwnNames, AreOf, AreOnce, AsksAll, IsNoLess, Serves}
-use Rattle.omf_communal.proofs.Agreeing.{names_agree}
+use Rattle.omf_keys.proofs.Agreeing.{names_agree}
 
 -- ---- lists
 

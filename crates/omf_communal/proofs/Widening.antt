@@ -12,10 +12,10 @@ use Rattle.omf_communal.specs.declared.declarations.Variable as lent
 use Rattle.omf_communal.specs.declared.declarations.Extent.{Extent}
 use Rattle.omf_communal.specs.declared.fault.ClashFault.{ClashFault}
 use Rattle.omf_communal.specs.declared.fault.ClashFault.TheVariants.{Memory}
-use Rattle.omf_communal.specs.declared.key.Key.{Key}
+use Rattle.omf_keys.specs.declared.key.Key.{Key}
 use Rattle.omf_communal.specs.Modules.{Declared}
 use Rattle.omf_communal.specs.Deciding.{IsClash, Variable, fresh, greater, meet, variable_said, widened}
-use Rattle.omf_communal.specs.inside.Keys.{key_of, same_key}
+use Rattle.omf_keys.specs.Keys.{key_of, same_key}
 use Rattle.omf_communal.specs.inside.Met.{place_of}
 use Rattle.omf_communal.proofs.Meeting.{clash-through, meets_clash, meets_new, meets_old, place_in, same_place}
 

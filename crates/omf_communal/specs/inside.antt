@@ -1,6 +1,5 @@
 -- How the code sees what it works on: no public contract cites any of it.
 pub mod Views
-pub mod Keys
 pub mod Met
 pub mod Planned
 pub mod Sought

@@ -6,15 +6,15 @@ ghost use Rattle.omf_communal.specs.Modules.{module_said};
 ghost use Rattle.omf_communal.specs.Deciding as decided;
 ghost use Rattle.omf_communal.specs.Deciding.{variable_said, AreVariables, IsClash};
 ghost use Rattle.omf_communal.specs.declared.fault.ClashFault.TheVariants.{Memory};
-ghost use Rattle.omf_communal.specs.inside.Keys.{key_of, same_key};
+ghost use Rattle.omf_keys.specs.Keys.{key_of, same_key};
 ghost use Rattle.omf_communal.specs.inside.Met as held;
 ghost use Rattle.omf_communal.specs.inside.Met.{declared_said, IsMet};
 
 use crate::declarations::{Declared, Declaring, Extent, Variable, Whose};
 use crate::fault::ClashFault;
-use crate::key::Key;
 use crate::modules::wanted;
 use indexmap::IndexMap;
+use omf_keys::Key;
 use omf_place::Names;
 use std::alloc::Allocator;
 use std::hash::{BuildHasherDefault, FoldHasher};

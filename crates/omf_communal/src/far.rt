@@ -11,13 +11,13 @@ ghost use Rattle.omf_place.specs.Names.{agrees};
 ghost use Rattle.omf_communal.specs.Deciding.{variable_said};
 ghost use Rattle.omf_communal.specs.Far as reach;
 ghost use Rattle.omf_communal.specs.Modules.{bytes_of};
-ghost use Rattle.omf_communal.specs.inside.Keys.{key_of, same_key};
+ghost use Rattle.omf_keys.specs.Keys.{key_of, same_key};
 ghost use Rattle.omf_communal.specs.inside.Sought as seek;
 
 use crate::declarations::{Extent, Variable};
-use crate::key::Key;
 use crate::modules::{NameSet, insert_offered, is_offered};
 use indexmap::IndexSet;
+use omf_keys::Key;
 use omf_module::{ExternalSymbol, Module, PublicSymbol, ResolvedFixup};
 use omf_place::Names;
 use omf_record::{FrameMethod, Location, PublicBase, TargetMethod};

@@ -9,7 +9,6 @@ mod entries;
 mod far;
 mod fault;
 mod fields;
-mod key;
 mod laws;
 mod locals;
 mod making;

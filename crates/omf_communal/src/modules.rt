@@ -8,12 +8,12 @@ ghost use Rattle.omf_place.specs.Names.{agrees};
 ghost use Rattle.omf_communal.specs.Modules as told;
 ghost use Rattle.omf_communal.specs.Modules.{bytes_of, module_said};
 ghost use Rattle.omf_communal.specs.Reading.{plain_communal};
-ghost use Rattle.omf_communal.specs.inside.Keys.{key_of, same_key};
+ghost use Rattle.omf_keys.specs.Keys.{key_of, same_key};
 ghost use Rattle.omf_communal.specs.inside.Met.{declared_said};
 
 use crate::declarations::{Communal, Declared, Declaring, Whose};
-use crate::key::Key;
 use indexmap::IndexSet;
+use omf_keys::Key;
 use omf_place::Names;
 use std::alloc::{AllocError, Allocator};
 use std::hash::{BuildHasherDefault, FoldHasher};

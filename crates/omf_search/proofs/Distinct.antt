@@ -8,14 +8,12 @@ use Rattle.std.specs.List.{filter, list_any}
 use Rattle.omf_place.specs.declared.names.Names.{Names}
 use Rattle.std.specs.Borrow.{Bor}
 use Rattle.std.specs.Cmp.{nat_eq_equiv, unsigned_tied}
-use Rattle.std.specs.Cmp.Lexicographic.{texts_ties}
 use Rattle.std.specs.declared.cmp.Ordering.{Ordering}
 use Rattle.std.specs.declared.cmp.Ordering.TheVariants.{Less, Equal, Greater}
 use Rattle.std.specs.Ordering.{is_eq, nat_cmp, ordering_then}
-use Rattle.omf_search.specs.Keys.{key_of, key_order, key_text}
-use Rattle.omf_search.specs.inside.Same.{same_key}
+use Rattle.omf_keys.specs.Keys.{key_of, key_order, same_key}
 use Rattle.omf_search.specs.inside.Met.{same_wanted, wanted_order}
-use Rattle.omf_search.specs.declared.key.Key.{Key}
+use Rattle.omf_keys.specs.declared.key.Key.{Key}
 use Rattle.omf_search.specs.declared.said.Wanted as held
 use Rattle.omf_search.specs.declared.unmet.WantedKey.{WantedKey}
 use Rattle.omf_search.specs.Missing.{distinct, is_same, missing_names}
@@ -23,7 +21,7 @@ use Rattle.omf_search.specs.Results.{wanted_said}
 use Rattle.omf_search.specs.Said.{Module, Wanted, is_defined}
 use Rattle.omf_search.specs.Wanted.{wanted_names}
 use Rattle.omf_search.proofs.ChoiceSteps.{wanted_at, wanted_within}
-use Rattle.omf_search.proofs.Agreeing.{keys_agree, names_agree}
+use Rattle.omf_keys.proofs.Agreeing.{key_ties, keys_agree, names_agree}
 
 both-equal : (a b : Ordering) → is_eq (ordering_then a b) ≡ (is_eq a && is_eq b)
 both-equal Less b = refl
@@ -34,7 +32,7 @@ both-equal Greater b = refl
 pub wanted_stands : (x y : WantedKey) → is_eq (wanted_order x y) ≡ same_wanted x y
 wanted_stands x y =
     both-equal (nat_cmp x.wanted_by y.wanted_by) (key_order x.key y.key)
-    ∙ ap₂ (λ a b. a && b) (unsigned_tied x.wanted_by y.wanted_by) (sym (texts_ties (key_text x.key) (key_text y.key)))
+    ∙ ap₂ (λ a b. a && b) (unsigned_tied x.wanted_by y.wanted_by) (sym (key_ties x.key y.key))
 
 -- the names of some that were found, and the keys that were met
 pub record IsFound (names : Names) (left : List Wanted) (missing : List held.Wanted) (known : WantedKey → Bool)

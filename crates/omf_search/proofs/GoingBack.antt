@@ -25,7 +25,7 @@ use Rattle.omf_search.specs.Searching.{HasFirst, HasPlaces}
 use Rattle.omf_search.specs.Taken.{IsTaken}
 use Rattle.omf_search.specs.Wanted.{met, wanted_names}
 use Rattle.omf_search.specs.inside.Back.{is_open}
-use Rattle.omf_search.proofs.Agreeing.{names_agree}
+use Rattle.omf_keys.proofs.Agreeing.{names_agree}
 use Rattle.omf_search.proofs.ChoiceSteps.{find-passes, takes-less}
 use Rattle.omf_search.proofs.Joining.{wanted-front, wanted-more}
 use Rattle.omf_search.proofs.Placing.{place_from-le, place_from-more}

@@ -1,5 +1,4 @@
 pub mod Agreeing
-pub mod InOrder
 pub mod TakenSteps
 pub mod Placing
 pub mod MetSteps

@@ -25,7 +25,7 @@ use Rattle.omf_search.specs.declared.said.Said as held_said
 use Rattle.omf_search.specs.Results.{bytes_of, member_said, module_said, offered_said}
 use Rattle.omf_search.specs.Said.{Module}
 use Rattle.omf_search.specs.Search.{Member}
-use Rattle.omf_search.proofs.Agreeing.{names_agree}
+use Rattle.omf_keys.proofs.Agreeing.{names_agree}
 use Rattle.omf_search.proofs.Placing.{found_place, place_from-le, place_from-more}
 use Rattle.omf_search.proofs.TakenSteps.{flat-push, length_front, map_more, two_hits}
 

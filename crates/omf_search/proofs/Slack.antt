@@ -7,7 +7,7 @@ use Rattle.omf_place.specs.Names.{agrees}
 use Rattle.omf_place.specs.declared.names.Names.{Names}
 use Rattle.omf_search.specs.Said.{Module, defines, is_defined, offers}
 use Rattle.omf_search.specs.Search.{Choice, Member, first_offering, next_choice}
-use Rattle.omf_search.proofs.Agreeing.{names_agree}
+use Rattle.omf_keys.proofs.Agreeing.{names_agree}
 use Rattle.omf_search.proofs.ChoiceLaws.{is_needed}
 use Rattle.omf_search.proofs.TakenSteps.{is_defined-push}
 

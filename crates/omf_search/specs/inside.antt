@@ -2,5 +2,4 @@
 pub mod Likeness
 pub mod Met
 pub mod Asking
-pub mod Same
 pub mod Back

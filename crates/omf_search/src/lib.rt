@@ -1,7 +1,6 @@
 //! Which members of libraries a link takes, and the names that stay missing.
 #![tactic(auto)]
 
-mod key;
 mod laws;
 mod likeness;
 mod meeting;

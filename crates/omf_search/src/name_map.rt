@@ -6,7 +6,7 @@ ghost use Rattle.std.specs.Option.{option_or};
 ghost use Rattle.omf_place.specs.Names.{agrees};
 ghost use Rattle.omf_search.specs.Keys.{size, value_of};
 
-use crate::key::Key;
+use omf_keys::Key;
 use omf_place::Names;
 use std::alloc::{AllocError, Allocator};
 use std::collections::BTreeMap;

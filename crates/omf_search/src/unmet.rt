@@ -8,9 +8,9 @@ ghost use Rattle.omf_search.specs.Missing.{missing_names};
 ghost use Rattle.omf_search.specs.Results.{module_said, wanted_said};
 ghost use Rattle.omf_search.specs.Said.{Module};
 
-use crate::key::Key;
 use crate::said::{Said, Wanted};
 use crate::taken::Taken;
+use omf_keys::Key;
 use omf_place::Names;
 use std::alloc::{AllocError, Allocator};
 use std::collections::BTreeSet;

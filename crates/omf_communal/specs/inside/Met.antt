@@ -8,7 +8,7 @@ use Rattle.omf_communal.specs.declared.declarations.Declared as lent
 use Rattle.omf_communal.specs.declared.deciding.Met.{Met}
 use Rattle.omf_communal.specs.Modules.{Declared}
 use Rattle.omf_communal.specs.Deciding.{Variable, variable_said}
-use Rattle.omf_communal.specs.inside.Keys.{key_of, same_key}
+use Rattle.omf_keys.specs.Keys.{key_of, same_key}
 
 -- a variable that a module declares
 abbrev pub declared_said : lent.Declared → Declared

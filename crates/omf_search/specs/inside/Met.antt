@@ -3,8 +3,7 @@ use Rattle.std.specs.Prelude.{Bool, ◌==◌, ◌&&◌}
 use Rattle.std.specs.declared.cmp.Ordering.{Ordering}
 use Rattle.std.specs.Ordering.{nat_cmp, ordering_then}
 use Rattle.omf_search.specs.declared.unmet.WantedKey.{WantedKey}
-use Rattle.omf_search.specs.Keys.{key_order}
-use Rattle.omf_search.specs.inside.Same.{same_key}
+use Rattle.omf_keys.specs.Keys.{key_order, same_key}
 
 -- two wanted names are one
 abbrev pub same_wanted : WantedKey → WantedKey → Bool

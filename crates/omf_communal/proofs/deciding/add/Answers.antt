@@ -2,7 +2,7 @@ use Rattle.std.proofs.Common.{◌≡◌, ◌∙◌, [], ◌∷◌, Some, cond, l
 use Rattle.std.proofs.lemmas.List.{length-map, map-append}
 use Rattle.indexmap.specs.IndexMap.{get}
 use Rattle.omf_communal.specs.Deciding.{fresh, variable_said}
-use Rattle.omf_communal.specs.inside.Keys.{key_of, same_key}
+use Rattle.omf_keys.specs.Keys.{key_of, same_key}
 use Rattle.omf_communal.specs.inside.Met.{declared_said, place_of}
 use Rattle.omf_communal.proofs.Meeting.{new_place}
 use Rattle.omf_communal.proofs.deciding.add.Goals as goal

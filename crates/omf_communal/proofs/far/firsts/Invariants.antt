@@ -5,7 +5,7 @@ use Rattle.indexmap.specs.IndexSet.{contains}
 use Rattle.omf_place.specs.Names.{agrees}
 use Rattle.omf_communal.specs.Far.{firsts}
 use Rattle.omf_communal.specs.Modules.{bytes_of}
-use Rattle.omf_communal.specs.inside.Keys.{key_of, same_key}
+use Rattle.omf_keys.specs.Keys.{key_of, same_key}
 use Rattle.omf_communal.proofs.far.firsts.Given as goal
 
 abbrev pub invariant-loop-name : goal.invariant-loop-name

@@ -1,6 +1,6 @@
 use Rattle.std.proofs.Common.{◌∙◌, ap, cond, true}
 use Rattle.indexmap.specs.IndexSet.{contains}
-use Rattle.omf_communal.specs.inside.Keys.{key_of, same_key}
+use Rattle.omf_keys.specs.Keys.{key_of, same_key}
 use Rattle.omf_communal.proofs.far.push_first.Goals as goal
 
 pub returns-clause-met : goal.returns-clause-met

@@ -6,7 +6,7 @@ use Rattle.omf_module.specs.Module.{ExternalSymbol}
 use Rattle.omf_place.specs.Names.{agrees}
 use Rattle.omf_communal.specs.Far.{is_reached}
 use Rattle.omf_communal.specs.Modules.{bytes_of}
-use Rattle.omf_communal.specs.inside.Keys.{key_of, same_key}
+use Rattle.omf_keys.specs.Keys.{key_of, same_key}
 use Rattle.omf_communal.proofs.far.reached_in.Given as goal
 
 abbrev pub invariant-loop-index : goal.invariant-loop-index

@@ -4,7 +4,7 @@ use Rattle.std.specs.List.{list_any}
 use Rattle.omf_place.specs.Names.{agrees}
 use Rattle.omf_communal.specs.Modules.{bytes_of}
 use Rattle.indexmap.specs.IndexSet.{contains}
-use Rattle.omf_communal.specs.inside.Keys.{key_of, same_key}
+use Rattle.omf_keys.specs.Keys.{key_of, same_key}
 use Rattle.omf_communal.proofs.Listing.{offered-turn}
 use Rattle.omf_communal.proofs.modules.insert_offered.Goals as goal
 

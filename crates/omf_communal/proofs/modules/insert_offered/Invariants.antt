@@ -4,7 +4,7 @@ use Rattle.std.specs.List.{list_any}
 use Rattle.indexmap.specs.IndexSet.{contains}
 use Rattle.omf_place.specs.Names.{agrees}
 use Rattle.omf_communal.specs.Modules.{bytes_of}
-use Rattle.omf_communal.specs.inside.Keys.{key_of, same_key}
+use Rattle.omf_keys.specs.Keys.{key_of, same_key}
 use Rattle.omf_communal.proofs.modules.insert_offered.Given as goal
 
 abbrev pub invariant-loop-name : goal.invariant-loop-name

@@ -2,7 +2,7 @@ use Rattle.std.proofs.Common.{◌∙◌, ap, arith, map}
 use Rattle.std.proofs.lemmas.List.{take_all}
 use Rattle.omf_communal.specs.Modules.{is_offered, module_said}
 use Rattle.indexmap.specs.IndexSet.{contains}
-use Rattle.omf_communal.specs.inside.Keys.{key_of, same_key}
+use Rattle.omf_keys.specs.Keys.{key_of, same_key}
 use Rattle.omf_communal.proofs.Listing.{offers-turn}
 use Rattle.omf_communal.proofs.modules.offered_names.Goals as goal
 

@@ -2,7 +2,7 @@ use Rattle.std.proofs.Common.{◌≡◌, ℕ, Bool, List, filter, map, not, take
 use Rattle.std.specs.Borrow.{Bor}
 use Rattle.indexmap.specs.IndexSet.{contains}
 use Rattle.omf_communal.specs.Modules.{Declared}
-use Rattle.omf_communal.specs.inside.Keys.{key_of, same_key}
+use Rattle.omf_keys.specs.Keys.{key_of, same_key}
 use Rattle.omf_communal.specs.inside.Met.{declared_said}
 use Rattle.omf_communal.proofs.modules.unoffered.Given as goal
 

@@ -2,8 +2,10 @@ use Rattle.std.proofs.Common.{◌≡◌, ◌+◌, ◌∙◌, ap, sym, refl, Some
 use Rattle.std.specs.BTreeMap.{get}
 use Rattle.std.specs.Ordering.{is_eq}
 use Rattle.omf_place.specs.Names.{agrees}
-use Rattle.omf_search.specs.Keys.{key_of, key_order, size, value_of}
-use Rattle.omf_search.proofs.Agreeing.{inserted, keys_stand, names_agree, same_value}
+use Rattle.omf_keys.specs.Keys.{key_of, key_order}
+use Rattle.omf_keys.proofs.Agreeing.{keys_stand, names_agree}
+use Rattle.omf_search.specs.Keys.{size, value_of}
+use Rattle.omf_search.proofs.Agreeing.{inserted, same_value}
 use Rattle.omf_search.proofs.name_map.NameMap.add.Goals as goal
 
 pub returns-then-contains-clause-values : goal.returns-then-contains-clause-values

@@ -2,7 +2,7 @@ use Rattle.std.proofs.Common.{◌≡◌, take}
 use Rattle.std.specs.Hash as fed
 use Rattle.std.specs.List.{fold, flat_map}
 use Rattle.omf_place.specs.inside.Named.{folded}
-use Rattle.omf_communal.proofs.key.feed_folded.Given as goal
+use Rattle.omf_keys.proofs.key.feed_folded.Given as goal
 
 abbrev pub invariant-loop-byte : goal.invariant-loop-byte
 invariant-loop-byte g l =
