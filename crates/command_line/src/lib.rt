@@ -1,5 +1,5 @@
-//! What the command lines of both programs share: arguments of one form, a command with one argument more, and for
-//! proofs what the values of a command line say and what follows of a parse.
+//! What the command lines of all programs share: arguments of one form, a command with one argument more, why words are
+//! no job, and for proofs what the values of a command line say and what follows of a parse.
 #![tactic(auto)]
 
 ghost use Rattle.std.specs.Prelude.{◌≡◌, IfOk, false};
@@ -7,9 +7,12 @@ ghost use Rattle.clap.specs.Words.{App, Rule, app_of, rule_of, with_rule};
 ghost use Rattle.clap.specs.declared.Command.{out-Command as fields_of};
 ghost use Rattle.command_line.specs.Rules as spec;
 
+mod words_fault;
+
 use clap::builder::ValueRange;
 use clap::{Arg, ArgAction, Command};
 use std::alloc::{AllocError, Global};
+pub use words_fault::{WordsFault, refusal};
 
 /// The version of both programs, which is that of the file VERSION.
 pub const VERSION: &str = "1.0";

@@ -6,6 +6,8 @@ use Rattle.std.specs.declared.result.Result.{Result}
 use Rattle.std.specs.Io.KnownBytes.{Appends}
 use Rattle.std.specs.List.{flat_map}
 use Rattle.clap.specs.Words.{Text, takes}
+use Rattle.command_line.specs.declared.words_fault.WordsFault.{WordsFault}
+use Rattle.command_line.specs.declared.words_fault.WordsFault.TheVariants.{Help, Wrong, Memory}
 use Rattle.omf_frame.specs.declared.device.IoFault.{IoFault}
 use Rattle.omf_frame.specs.Device.{Writes}
 use Rattle.doslink_files.specs.Files.{IsTold}
@@ -16,8 +18,6 @@ use Rattle.doslib_jobs.specs.declared.fault.Stopped.{Stopped}
 use Rattle.doslib_jobs.specs.declared.fault.Stopped.TheVariants as stopped
 use Rattle.doslib_words.specs.declared.words.Job.{Job}
 use Rattle.doslib_words.specs.declared.words.Job.TheVariants.{List as ListJob}
-use Rattle.doslib_words.specs.declared.words.WordsFault.{WordsFault}
-use Rattle.doslib_words.specs.declared.words.WordsFault.TheVariants.{Help, Wrong, Memory}
 use Rattle.doslib_jobs.specs.Reading.{faults_status, unread_line}
 use Rattle.doslib_words.specs.Words.{IsJobFor, doslib_command, texts}
 

@@ -50,7 +50,7 @@ fn list_file<W: World + Copy, O: Write + Drop, A: Allocator + Copy>(
     match read_file(alloc, &world, path) {
         Ok(file) => list_bytes(alloc, path, file.bytes, output, outcome),
         Err(ReadFault::Memory) => Err(Stopped::Memory),
-        Err(fault) => Ok(outcome.add_unread(alloc, path, fault)?),
+        Err(fault) => Ok(outcome.add_unread(path, fault)?),
     }
 }
 
@@ -72,6 +72,6 @@ fn list_bytes<O: Write + Drop, A: Allocator + Copy>(
     let mut text = Vec::new(alloc);
     push_list(alloc, &mut text, path, whole.kind, &members)?;
     put_all(output, &text)?;
-    outcome.add_faults(alloc, path, &members, whole.fault)?;
+    outcome.add_faults(path, &members, whole.fault)?;
     Ok(())
 }

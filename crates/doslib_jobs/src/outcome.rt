@@ -51,7 +51,6 @@ impl<A: Allocator + Copy> Outcome<A> {
     /// Adds the faults of a file at a path, by its members and its own.
     pub(crate) fn add_faults(
         &mut self,
-        alloc: A,
         path: &str,
         members: &[Member<'_>],
         fault: Option<(usize, FormatFault)>,
@@ -62,7 +61,7 @@ impl<A: Allocator + Copy> Outcome<A> {
             ≡ max self.old.status (faults_status (faults_text path.now (map plain_member members.now) fault))) }
     {
         let before = self.lines.len();
-        push_faults(alloc, &mut self.lines, path, members, fault)?;
+        push_faults(&mut self.lines, path, members, fault)?;
         if self.lines.len() > before {
             self.raise(AT_FAULT);
         }
@@ -70,16 +69,11 @@ impl<A: Allocator + Copy> Outcome<A> {
     }
 
     /// Adds that a file at a path isn't read, and why.
-    pub(crate) fn add_unread(
-        &mut self,
-        alloc: A,
-        path: &str,
-        fault: ReadFault,
-    ) -> Result<(), AllocError>
+    pub(crate) fn add_unread(&mut self, path: &str, fault: ReadFault) -> Result<(), AllocError>
         ensures lines { OnOk result (self.new.lines.items ≡ self.old.lines.items ++ unread_line path.now fault) }
         ensures status { OnOk result (self.new.status ≡ max self.old.status 3) }
     {
-        push_unread(alloc, &mut self.lines, path, fault)?;
+        push_unread(&mut self.lines, path, fault)?;
         self.raise(FAILED);
         Ok(())
     }

@@ -3,8 +3,8 @@
 ghost use Rattle.std.specs.Prelude.{◌≡◌, ◌++◌, OnOk};
 ghost use Rattle.doslib_jobs.specs.Reading as spec;
 
-use doslib_text::{Part, push_parts};
 use doslink_files::ReadFault;
+use omf_text::{Piece, push_pieces};
 use std::alloc::{AllocError, Allocator};
 
 /// Why a file isn't read.
@@ -25,19 +25,18 @@ fn unread_text(fault: ReadFault) -> &'static str
 
 /// Appends the line of a file that isn't read, and why.
 pub(crate) fn push_unread<A: Allocator + Copy>(
-    alloc: A,
     lines: &mut Vec<u8, A>,
     path: &str,
     fault: ReadFault,
 ) -> Result<(), AllocError>
     ensures { OnOk result (lines.new.items ≡ lines.old.items ++ spec.unread_line path.now fault) }
 {
-    let parts = [
-        Part::Text("doslib: "),
-        Part::Text(path),
-        Part::Text(": 1 Device: "),
-        Part::Text(unread_text(fault)),
-        Part::Text("\n"),
+    let pieces = [
+        Piece::Text("doslib: "),
+        Piece::Text(path),
+        Piece::Text(": 1 Device: "),
+        Piece::Text(unread_text(fault)),
+        Piece::Text("\n"),
     ];
-    push_parts(alloc, lines, parts.as_slice())
+    push_pieces(lines, pieces.as_slice())
 }

@@ -18,7 +18,7 @@ fn push_report<A: Allocator + Copy>(
     let whole = Whole::of(alloc, bytes)?;
     let members = whole.members(alloc)?;
     push_list(alloc, text, "F", whole.kind, &members)?;
-    push_faults(alloc, faults, "F", &members, whole.fault)
+    push_faults(faults, "F", &members, whole.fault)
 }
 
 /// What is told of a file, with the memory of this allocator.

@@ -5,9 +5,9 @@ ghost use Rattle.std.specs.List.{flat_map};
 ghost use Rattle.omf_library.specs.Members.{plain_member};
 ghost use Rattle.doslib_text.specs.Faults as spec;
 
-use crate::lines::{Part, push_parts};
 use crate::parts::module_end;
 use omf_library::{FormatFault, LibraryFault, Member};
+use omf_text::{Piece, push_pieces};
 use std::alloc::{AllocError, Allocator};
 
 /// The number and the name that a fault of a file is printed with.
@@ -27,7 +27,6 @@ fn format_label(fault: FormatFault) -> (u8, &'static str)
 
 /// Appends the line of a fault with this number and name, behind so many bytes of the file at a path.
 fn push_located<'p, A: Allocator + Copy>(
-    alloc: A,
     lines: &mut Vec<u8, A>,
     path: &'p str,
     label: (u8, &'p str),
@@ -37,23 +36,22 @@ fn push_located<'p, A: Allocator + Copy>(
         ≡ lines.old.items ++ spec.located path.now (label.entry.0, label.entry.1.now) place) }
 {
     let (number, name) = label;
-    let parts = [
-        Part::Text("doslib: "),
-        Part::Text(path),
-        Part::Text(": "),
-        Part::Count(usize::from(number)),
-        Part::Text(" "),
-        Part::Text(name),
-        Part::Text(" at place "),
-        Part::Count(place),
-        Part::Text("\n"),
+    let pieces = [
+        Piece::Text("doslib: "),
+        Piece::Text(path),
+        Piece::Text(": "),
+        Piece::Count(usize::from(number)),
+        Piece::Text(" "),
+        Piece::Text(name),
+        Piece::Text(" at place "),
+        Piece::Count(place),
+        Piece::Text("\n"),
     ];
-    push_parts(alloc, lines, parts.as_slice())
+    push_pieces(lines, pieces.as_slice())
 }
 
 /// Appends the line of a fault behind so many bytes of the file at a path.
 fn push_fault<A: Allocator + Copy>(
-    alloc: A,
     lines: &mut Vec<u8, A>,
     path: &str,
     place: usize,
@@ -61,12 +59,11 @@ fn push_fault<A: Allocator + Copy>(
 ) -> Result<(), AllocError>
     ensures { OnOk result (lines.new.items ≡ lines.old.items ++ spec.fault_line path.now place fault) }
 {
-    push_located(alloc, lines, path, format_label(fault), place)
+    push_located(lines, path, format_label(fault), place)
 }
 
 /// Appends the line of the first record of a member that is at fault, by its place in the file, where one is.
 fn push_module_fault<A: Allocator + Copy>(
-    alloc: A,
     lines: &mut Vec<u8, A>,
     path: &str,
     member: &Member<'_>,
@@ -77,20 +74,13 @@ fn push_module_fault<A: Allocator + Copy>(
     match module_end(member.bytes, 0) {
         Ok(_) | Err(LibraryFault::Memory) => Ok(()),
         Err(LibraryFault::Malformed { place, fault }) => {
-            push_fault(
-                alloc,
-                lines,
-                path,
-                member.place.saturating_add(place),
-                fault,
-            )
+            push_fault(lines, path, member.place.saturating_add(place), fault)
         }
     }
 }
 
 /// Appends the lines of the members that are at fault.
 fn push_module_faults<A: Allocator + Copy>(
-    alloc: A,
     lines: &mut Vec<u8, A>,
     path: &str,
     members: &[Member<'_>],
@@ -99,14 +89,13 @@ fn push_module_faults<A: Allocator + Copy>(
         ≡ lines.old.items ++ flat_map (spec.module_fault path.now) (map plain_member members.now)) }
 {
     for member in members {
-        push_module_fault(alloc, lines, path, member)?;
+        push_module_fault(lines, path, member)?;
     }
     Ok(())
 }
 
 /// Appends the lines of the faults of a file at a path: those of the records of its members, and then its own.
 pub fn push_faults<A: Allocator + Copy>(
-    alloc: A,
     lines: &mut Vec<u8, A>,
     path: &str,
     members: &[Member<'_>],
@@ -115,9 +104,9 @@ pub fn push_faults<A: Allocator + Copy>(
     ensures { OnOk result (lines.new.items
         ≡ lines.old.items ++ spec.faults_text path.now (map plain_member members.now) fault) }
 {
-    push_module_faults(alloc, lines, path, members)?;
+    push_module_faults(lines, path, members)?;
     match fault {
-        Some((place, fault)) => push_fault(alloc, lines, path, place, fault),
+        Some((place, fault)) => push_fault(lines, path, place, fault),
         None => Ok(()),
     }
 }

@@ -2,11 +2,9 @@
 #![tactic(auto)]
 
 mod fault;
-mod lines;
 mod listing;
 mod parts;
 
 pub use fault::push_faults;
-pub use lines::{Part, push_parts};
 pub use listing::push_list;
 pub use parts::{Whole, module_end};

@@ -7,8 +7,8 @@ ghost use Rattle.omf_library.specs.Names.{texts};
 ghost use Rattle.omf_library.specs.Records.{module_records};
 ghost use Rattle.doslib_text.specs.Listing as spec;
 
-use crate::lines::{Part, push_parts};
 use omf_library::{FileKind, Member, module_names, record_at, take_name};
+use omf_text::{Piece, push_pieces};
 use std::alloc::{AllocError, Allocator};
 
 /// The word for what a file is.
@@ -24,7 +24,6 @@ fn kind_word(kind: FileKind) -> &'static str
 
 /// Appends the line of a file: what it is, its path, and how many members it has.
 fn push_title<A: Allocator + Copy>(
-    alloc: A,
     lines: &mut Vec<u8, A>,
     kind: FileKind,
     path: &str,
@@ -32,14 +31,14 @@ fn push_title<A: Allocator + Copy>(
 ) -> Result<(), AllocError>
     ensures { OnOk result (lines.new.items ≡ lines.old.items ++ spec.title kind path.now count) }
 {
-    let parts = [
-        Part::Text(kind_word(kind)),
-        Part::Name(path.as_bytes()),
-        Part::Text(" members "),
-        Part::Count(count),
-        Part::Text("\n"),
+    let pieces = [
+        Piece::Text(kind_word(kind)),
+        Piece::Name(path.as_bytes()),
+        Piece::Text(" members "),
+        Piece::Count(count),
+        Piece::Text("\n"),
     ];
-    push_parts(alloc, lines, parts.as_slice())
+    push_pieces(lines, pieces.as_slice())
 }
 
 /// The name in the record that heads a module, 80H THEADR or 82H LHEADR. Empty where the bytes begin with none.
@@ -69,27 +68,25 @@ fn shown_name<'a>(member: &Member<'a>) -> &'a [u8]
 
 /// Appends the line of a member: its place in the file, how many bytes it has, and its name.
 fn push_member_line<A: Allocator + Copy>(
-    alloc: A,
     lines: &mut Vec<u8, A>,
     member: &Member<'_>,
 ) -> Result<(), AllocError>
     ensures { OnOk result (lines.new.items ≡ lines.old.items ++ spec.member_line (plain_member member.now)) }
 {
-    let parts = [
-        Part::Text("  "),
-        Part::Place(member.place),
-        Part::Text(" "),
-        Part::Size(member.bytes.len()),
-        Part::Text(" "),
-        Part::Name(shown_name(member)),
-        Part::Text("\n"),
+    let pieces = [
+        Piece::Text("  "),
+        Piece::FilePlace(member.place as u64),
+        Piece::Text(" "),
+        Piece::Size(member.bytes.len()),
+        Piece::Text(" "),
+        Piece::Name(shown_name(member)),
+        Piece::Text("\n"),
     ];
-    push_parts(alloc, lines, parts.as_slice())
+    push_pieces(lines, pieces.as_slice())
 }
 
 /// Appends a line for each name, behind a word.
 fn push_names<'p, A: Allocator + Copy>(
-    alloc: A,
     lines: &mut Vec<u8, A>,
     word: &'p str,
     names: &[&'p [u8]],
@@ -97,14 +94,14 @@ fn push_names<'p, A: Allocator + Copy>(
     ensures { OnOk result (lines.new.items ≡ lines.old.items ++ flat_map (spec.name_line word.now) (texts names.now)) }
 {
     for name in names {
-        let parts = [
-            Part::Text("    "),
-            Part::Text(word),
-            Part::Text(" "),
-            Part::Name(name),
-            Part::Text("\n"),
+        let pieces = [
+            Piece::Text("    "),
+            Piece::Text(word),
+            Piece::Text(" "),
+            Piece::Name(name),
+            Piece::Text("\n"),
         ];
-        push_parts(alloc, lines, parts.as_slice())?;
+        push_pieces(lines, pieces.as_slice())?;
     }
     Ok(())
 }
@@ -118,10 +115,10 @@ fn push_module_names<A: Allocator + Copy>(
     ensures { OnOk result (lines.new.items ≡ lines.old.items ++ spec.names_text (module_records bytes.now 0)) }
 {
     let said = module_names(alloc, bytes)?;
-    push_names(alloc, lines, "offers", &said.offered)?;
-    push_names(alloc, lines, "communal", &said.communals)?;
-    push_names(alloc, lines, "wants", &said.wanted)?;
-    push_names(alloc, lines, "library", &said.libraries)
+    push_names(lines, "offers", &said.offered)?;
+    push_names(lines, "communal", &said.communals)?;
+    push_names(lines, "wants", &said.wanted)?;
+    push_names(lines, "library", &said.libraries)
 }
 
 /// Appends what is printed of a member.
@@ -132,7 +129,7 @@ fn push_member<A: Allocator + Copy>(
 ) -> Result<(), AllocError>
     ensures { OnOk result (lines.new.items ≡ lines.old.items ++ spec.member_text (plain_member member.now)) }
 {
-    push_member_line(alloc, lines, member)?;
+    push_member_line(lines, member)?;
     push_module_names(alloc, lines, member.bytes)
 }
 
@@ -163,6 +160,6 @@ pub fn push_list<A: Allocator + Copy>(
     ensures { OnOk result (lines.new.items
         ≡ lines.old.items ++ spec.listing kind path.now (map plain_member members.now)) }
 {
-    push_title(alloc, lines, kind, path, members.len())?;
+    push_title(lines, kind, path, members.len())?;
     push_members(alloc, lines, members)
 }

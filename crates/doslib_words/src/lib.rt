@@ -3,4 +3,4 @@
 
 mod words;
 
-pub use words::{Job, WordsFault, parse_words};
+pub use words::{Job, parse_words};

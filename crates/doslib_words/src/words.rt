@@ -1,21 +1,17 @@
 //! The words of the command line.
 ghost use Rattle.std.specs.Prelude.{◌≡◌, IfErr, IfOk, IsSome, Some, codes, false, true};
-ghost use Rattle.clap.specs.Words.{App, app_of, first_of, found_of, is_simple, kind_of, rows_of, rule_of, takes};
+ghost use Rattle.clap.specs.Words.{App, app_of, first_of, found_of, is_simple, rows_of, rule_of, takes};
 ghost use Rattle.clap.specs.Words.{with_subcommand};
 ghost use Rattle.clap.specs.declared.Command.{out-Command as fields_of};
-ghost use Rattle.clap.specs.declared.error.ErrorKind.TheVariants.{OutOfMemory};
 ghost use Rattle.command_line.specs.Rules.{files_rule};
-ghost use Rattle.doslib_words.specs.declared.words.WordsFault.TheVariants.{Memory};
 ghost use Rattle.doslib_words.specs.Words as spec;
 ghost use Rattle.doslib_words.specs.Words.{IsJobFor, IsJobOf, texts};
 ghost use Rattle.doslib_words.specs.inside.Words.{IsEntered};
 
 use clap::builder::ValueRange;
-use clap::error::ErrorKind;
 use clap::{Arg, ArgMatches, Command};
-use command_line::{VERSION, with_arg};
+use command_line::{VERSION, WordsFault, refusal, with_arg};
 use std::alloc::{AllocError, Global};
-use thiserror::Error;
 
 /// What stands at the end of help.
 const STATUSES: &str = "\
@@ -30,28 +26,6 @@ pub enum Job<'a> {
         /// The paths of the files, in their order.
         files: Vec<&'a str>,
     },
-}
-
-/// Why the words are no job.
-#[derive(Debug, Drop, Error)]
-pub enum WordsFault {
-    /// They ask for help, which is this text.
-    #[error("{0}")]
-    Help(String),
-    /// They are wrong, and this text says why.
-    #[error("{0}")]
-    Wrong(String),
-    /// There was no memory.
-    #[error("out of memory")]
-    Memory,
-}
-
-impl From<AllocError> for WordsFault {
-    ghost from_gives = { λ _ e. e ≡ Memory };
-
-    fn from(_error: AllocError) -> WordsFault {
-        WordsFault::Memory
-    }
 }
 
 /// The files that are told of, one or more.
@@ -117,20 +91,6 @@ fn doslib_command<'a>(alloc: Global) -> Result<Command<'a>, AllocError>
         "Lists the members of files, with the names that each offers and wants",
     );
     with_command(bare_command(alloc), list)
-}
-
-/// What the parser says of the words.
-fn refusal(alloc: Global, error: &clap::Error) -> WordsFault
-    ensures { kind_of error.now ≡ OutOfMemory → result ≡ WordsFault.Memory }
-{
-    if error.kind() == ErrorKind::OutOfMemory {
-        return WordsFault::Memory;
-    }
-    match error.to_string(alloc) {
-        Err(_) => WordsFault::Memory,
-        Ok(text) if error.use_stderr() => WordsFault::Wrong(text),
-        Ok(text) => WordsFault::Help(text),
-    }
 }
 
 /// The files of a subcommand, by its values.

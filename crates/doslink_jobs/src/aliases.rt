@@ -136,7 +136,7 @@ pub(crate) fn check_aliases<'a, A: Allocator + Copy>(
         let found = endless_of(alloc, meanings, each.entry.bytes)?;
         if let Some(alias) = found {
             let word = taken.word(index);
-            let told = push_endless_alias(alloc, lines, word, alias.place, alias.name);
+            let told = push_endless_alias(lines, word, alias.place, alias.name);
             return Err(stop_after(told));
         }
     }

@@ -91,7 +91,6 @@ fn declarings<'d, 'a, A: Allocator + Copy>(
 
 /// Tells that declarations clash, and stops. The words are those of the modules.
 fn stop_at_clash<A: Allocator + Copy>(
-    alloc: A,
     fault: ClashFault,
     modules: &[Declaring<'_, '_>],
     words: &[Vec<u8, A>],
@@ -101,13 +100,12 @@ fn stop_at_clash<A: Allocator + Copy>(
 {
     match fault {
         ClashFault::Memory => Stop::Memory,
-        _ => stop_after(push_clash(alloc, lines, fault, modules, words)),
+        _ => stop_after(push_clash(lines, fault, modules, words)),
     }
 }
 
 /// Tells that a variable has no place, and stops. The words are those of the modules that declare it.
 pub(crate) fn stop_unplaced<A: Allocator + Copy>(
-    alloc: A,
     fault: PlanFault,
     variables: &[Variable<'_>],
     words: &[Vec<u8, A>],
@@ -117,7 +115,7 @@ pub(crate) fn stop_unplaced<A: Allocator + Copy>(
 {
     match fault {
         PlanFault::Memory => Stop::Memory,
-        _ => stop_after(push_unplaced(alloc, lines, fault, variables, words)),
+        _ => stop_after(push_unplaced(lines, fault, variables, words)),
     }
 }
 
@@ -138,7 +136,7 @@ pub(crate) fn agreed_variables<'a, A: Allocator + Copy>(
     let modules = declarings(alloc, declared)?;
     match variables(alloc, names, &modules) {
         Ok(variables) => Ok(variables),
-        Err(fault) => Err(stop_at_clash(alloc, fault, &modules, words, lines)),
+        Err(fault) => Err(stop_at_clash(fault, &modules, words, lines)),
     }
 }
 
@@ -195,6 +193,6 @@ pub(crate) fn communal_bytes<A: Allocator + Copy>(
     let in_bss = is_in_bss(read);
     match communal_module(alloc, variables, in_bss) {
         Ok(bytes) => Ok(bytes),
-        Err(fault) => Err(stop_unplaced(alloc, fault, variables, taken.words, lines)),
+        Err(fault) => Err(stop_unplaced(fault, variables, taken.words, lines)),
     }
 }

@@ -507,7 +507,6 @@ fn add_defaults<'f, W: World, A: Allocator + Copy>(
 
 /// Warns of each of these default libraries.
 fn push_told<A: Allocator + Copy>(
-    alloc: A,
     told: &[DefaultLibrary<'_, A>],
     lines: &mut Vec<u8, A>,
 ) -> Result<(), AllocError>
@@ -515,14 +514,13 @@ fn push_told<A: Allocator + Copy>(
         ++ flat_map (λ l. absent_warning (library_said l)) told.now) }
 {
     for library in told {
-        push_absent_line(alloc, lines, library.name, &library.word)?;
+        push_absent_line(lines, library.name, &library.word)?;
     }
     Ok(())
 }
 
 /// Warns of each default library that isn't found, unless the job is to be quiet and the files could be gathered.
 fn warn_of_absent<A: Allocator + Copy>(
-    alloc: A,
     job: &Job<'_>,
     failed: bool,
     absent: &[DefaultLibrary<'_, A>],
@@ -535,7 +533,7 @@ fn warn_of_absent<A: Allocator + Copy>(
         return Ok(());
     }
     let told = told_count(absent.len(), job.verbose);
-    push_told(alloc, &absent[..told], lines)?;
+    push_told(&absent[..told], lines)?;
     push_rest(lines, absent.len() - told)
 }
 
@@ -570,7 +568,7 @@ fn add_asked<'f, W: World, A: Allocator + Copy>(
     let mut absent = Vec::new(alloc);
     let mut told = Vec::new(alloc);
     let added = add_defaults(alloc, world, arena, how, gathered, &mut absent, &mut told);
-    warn_of_absent(alloc, job, added.is_err(), &absent, lines)?;
+    warn_of_absent(job, added.is_err(), &absent, lines)?;
     lines.extend_from_slice(&told)?;
     added
 }

@@ -77,7 +77,7 @@ fn tell_program_fault<A: Allocator + Copy>(
     };
     match bytes {
         Some(bytes) if bytes <= u128::from(u64::MAX) => {
-            push_excess(alloc, lines, at_fault, bytes as u64)
+            push_excess(lines, at_fault, bytes as u64)
         }
         _ => push_fault(alloc, lines, fault, b""),
     }

@@ -128,7 +128,7 @@ fn placed_bytes<A: Allocator + Copy>(
 {
     match local_module(alloc, one.bytes(), variables, in_bss) {
         Ok(bytes) => Ok(bytes),
-        Err(fault) => Err(stop_unplaced(alloc, fault, variables, words, lines)),
+        Err(fault) => Err(stop_unplaced(fault, variables, words, lines)),
     }
 }
 

@@ -98,7 +98,6 @@ pub(crate) fn is_unasked(asked: &Asked<'_, '_>) -> bool
 
 /// Tells why there is no order module, and stops. The words are those of the modules.
 fn stop_at_order<A: Allocator + Copy>(
-    alloc: A,
     fault: OrderFault<'_>,
     words: &[&[u8]],
     lines: &mut Vec<u8, A>,
@@ -110,7 +109,7 @@ fn stop_at_order<A: Allocator + Copy>(
         OrderFault::TooManySegments => stop_after(push_order_line(lines)),
         OrderFault::DataInBss { module, segment } => {
             let word = words.get(module).copied().unwrap_or(b"");
-            stop_after(push_data_in_bss(alloc, lines, segment, word))
+            stop_after(push_data_in_bss(lines, segment, word))
         }
     }
 }
@@ -133,6 +132,6 @@ pub(crate) fn order_bytes<A: Allocator + Copy>(
     let order = order_asked(asked, &items);
     match order_module(alloc, modules, order, asked.names) {
         Ok(made) => Ok(made),
-        Err(fault) => Err(stop_at_order(alloc, fault, words, lines)),
+        Err(fault) => Err(stop_at_order(fault, words, lines)),
     }
 }

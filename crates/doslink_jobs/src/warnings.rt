@@ -175,7 +175,6 @@ fn word_of<'w>(words: &[&'w [u8]], index: usize) -> &'w [u8]
 
 /// Warns of a far communal variable. The words are those of the modules.
 fn push_one<A: Allocator + Copy>(
-    alloc: A,
     one: &Reached<'_>,
     words: &[&[u8]],
     lines: &mut Vec<u8, A>,
@@ -183,12 +182,11 @@ fn push_one<A: Allocator + Copy>(
     ensures { OnOk result (lines.new.items ≡ lines.old.items
         ++ spec.reached_warning (bytes_of words.now) (reached_said one.now)) }
 {
-    push_reached(alloc, lines, one.name, word_of(words, one.module))
+    push_reached(lines, one.name, word_of(words, one.module))
 }
 
 /// Warns of each of these far communal variables. The words are those of the modules.
 fn push_told<A: Allocator + Copy>(
-    alloc: A,
     told: &[Reached<'_>],
     words: &[&[u8]],
     lines: &mut Vec<u8, A>,
@@ -197,7 +195,7 @@ fn push_told<A: Allocator + Copy>(
         ++ flat_map (λ r. spec.reached_warning (bytes_of words.now) (reached_said r)) told.now) }
 {
     for each in told {
-        push_one(alloc, each, words, lines)?;
+        push_one(each, words, lines)?;
     }
     Ok(())
 }
@@ -217,7 +215,7 @@ fn warn_of_reached<A: Allocator + Copy>(
     let reached = far_by_offset(alloc, options_of(job).names, modules, variables)?;
     let reached = reached.as_slice();
     let told = told_count(reached.len(), job.verbose);
-    push_told(alloc, &reached[..told], words, lines)?;
+    push_told(&reached[..told], words, lines)?;
     push_rest(lines, reached.len() - told)
 }
 

@@ -20,10 +20,11 @@ use crate::running::{finish, run_job, run_lines};
 use crate::spoken::{Spoken, directives_of};
 use crate::stop::{Halt, Stop};
 use bumpalo::Bump;
+use command_line::WordsFault;
 use doslink_files::last_part;
 use doslink_words::{
-    DirectiveFault, Directives, SplitFault, WordsFault, parse_directives, parse_words,
-    response_word, split_words, text_asked,
+    DirectiveFault, Directives, SplitFault, parse_directives, parse_words, response_word,
+    split_words, text_asked,
 };
 use makefile_words::Language as Linker;
 use omf_files::{BufferedSink, FileId, World};

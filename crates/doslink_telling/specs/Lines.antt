@@ -1,6 +1,6 @@
 -- The lines of faults and warnings. A word stands in a line for a file or a module: it is a path, and of a member its
 -- name in parentheses behind that of its library. A label is the number and the name of a fault.
-use Rattle.std.specs.Prelude.{◌≡◌, ℕ, ◌==◌, if◌then◌else◌, List, [], ◌∷◌, ◌++◌, codes, decimal, drop, length}
+use Rattle.std.specs.Prelude.{◌≡◌, ℕ, ◌==◌, if◌then◌else◌, List, [], ◌∷◌, ◌++◌, codes, decimal}
 use Rattle.std.specs.Prelude.{take, slice_get, Some, None, Vec}
 use Rattle.std.specs.declared.option.Option.{Option}
 use Rattle.std.specs.declared.io.ErrorKind.{ErrorKind}
@@ -23,7 +23,7 @@ use Rattle.omf_library.specs.declared.fault.FormatFault.TheVariants as format
 use Rattle.omf_lower.specs.declared.fault.Obstacle.{Obstacle}
 use Rattle.omf_lower.specs.declared.fault.Obstacle.TheVariants as obstacle
 use Rattle.omf_faults.specs.declared.fault.LinkFault.{LinkFault}
-use Rattle.omf_faults.specs.FaultLines as omf
+use Rattle.omf_faults.specs.FaultLines as told
 use Rattle.omf_text.specs.Printing.{printed_name}
 use Rattle.doslink_files.specs.declared.fault.ReadFault.{ReadFault}
 use Rattle.doslink_files.specs.declared.fault.ReadFault.TheVariants as read
@@ -38,9 +38,9 @@ IsTold (Some line) old new = new ≡ old ++ line
 
 -- ---- faults of the link
 
--- the line of a fault of the link: the one that `omf` prints, with this program's name in place of `omf`'s
+-- the line of a fault of the link, as this program tells it
 abbrev pub fault_line : {A : Type 0} → LinkFault A → (word : List ℕ) → List ℕ
-fault_line fault word = codes "doslink" ++ drop (length (codes "omf")) (omf.fault_line fault (utf8_lossy word))
+fault_line fault word = told.fault_line (codes "doslink") fault (utf8_lossy word)
 
 -- ---- faults at a place
 

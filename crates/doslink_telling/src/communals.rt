@@ -48,7 +48,6 @@ fn name_at<'a>(modules: &[Declaring<'_, 'a>], whose: Whose) -> &'a [u8]
 
 /// Appends the line of a name that two modules declare.
 fn push_clashing<A: Allocator + Copy>(
-    alloc: A,
     lines: &mut Vec<u8, A>,
     label: (u8, &str),
     first: Whose,
@@ -60,13 +59,7 @@ fn push_clashing<A: Allocator + Copy>(
         ++ spec.clashing (label.entry.0, label.entry.1.now) first other modules.now words.now) }
 {
     let both = [word_at(words, first.module), word_at(words, other.module)];
-    push_named(
-        alloc,
-        lines,
-        label,
-        name_at(modules, first),
-        both.as_slice(),
-    )
+    push_named(lines, label, name_at(modules, first), both.as_slice())
 }
 
 /// Appends the line of a name whose declarations clash, with the modules that declare it. The words are those of the
@@ -75,7 +68,6 @@ fn push_clashing<A: Allocator + Copy>(
 /// # Errors
 /// Want of memory, also where that is the fault.
 pub fn push_clash<A: Allocator + Copy>(
-    alloc: A,
     lines: &mut Vec<u8, A>,
     fault: ClashFault,
     modules: &[Declaring<'_, '_>],
@@ -86,11 +78,11 @@ pub fn push_clash<A: Allocator + Copy>(
     match fault {
         ClashFault::NearAndFar { first, other } => {
             let label = (55, "NearAndFar");
-            push_clashing(alloc, lines, label, first, other, modules, words)
+            push_clashing(lines, label, first, other, modules, words)
         }
         ClashFault::ElementSizes { first, other } => {
             let label = (56, "ElementSizes");
-            push_clashing(alloc, lines, label, first, other, modules, words)
+            push_clashing(lines, label, first, other, modules, words)
         }
         ClashFault::Memory => Err(AllocError),
     }
@@ -98,7 +90,6 @@ pub fn push_clash<A: Allocator + Copy>(
 
 /// Appends the line of a variable, by its index, with the first module that declares it. Nothing behind the last.
 fn push_declared<A: Allocator + Copy>(
-    alloc: A,
     lines: &mut Vec<u8, A>,
     label: (u8, &str),
     index: usize,
@@ -111,7 +102,7 @@ fn push_declared<A: Allocator + Copy>(
     match variables.get(index) {
         Some(variable) => {
             let word = [word_at(words, variable.first.module)];
-            push_named(alloc, lines, label, variable.name, word.as_slice())
+            push_named(lines, label, variable.name, word.as_slice())
         }
         None => Ok(()),
     }
@@ -123,7 +114,6 @@ fn push_declared<A: Allocator + Copy>(
 /// # Errors
 /// Want of memory, also where that is the fault.
 pub fn push_unplaced<A: Allocator + Copy>(
-    alloc: A,
     lines: &mut Vec<u8, A>,
     fault: PlanFault,
     variables: &[Variable<'_>],
@@ -133,27 +123,13 @@ pub fn push_unplaced<A: Allocator + Copy>(
 {
     match fault {
         PlanFault::NearTooLong { variable } => {
-            push_declared(
-                alloc,
-                lines,
-                (57, "NearTooLong"),
-                variable,
-                variables,
-                words,
-            )
+            push_declared(lines, (57, "NearTooLong"), variable, variables, words)
         }
         PlanFault::CutElement { variable } => {
-            push_declared(alloc, lines, (58, "CutElement"), variable, variables, words)
+            push_declared(lines, (58, "CutElement"), variable, variables, words)
         }
         PlanFault::TooManySegments { variable } => {
-            push_declared(
-                alloc,
-                lines,
-                (59, "TooManySegments"),
-                variable,
-                variables,
-                words,
-            )
+            push_declared(lines, (59, "TooManySegments"), variable, variables, words)
         }
         PlanFault::Memory => Err(AllocError),
     }

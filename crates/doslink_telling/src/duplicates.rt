@@ -278,7 +278,7 @@ fn push_duplicate<'p, 'm, A: Allocator + Copy>(
     let rest = rest_word(alloc, same.len() - told)?;
     let found = told_words(alloc, same, told, words, &rest)?;
     let name = duplicate.public.name;
-    push_named(alloc, lines, (25, "DuplicatePublic"), name, &found)
+    push_named(lines, (25, "DuplicatePublic"), name, &found)
 }
 
 /// Appends a line for each of some names that more than one public has.

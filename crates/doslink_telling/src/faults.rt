@@ -1,11 +1,9 @@
 //! The lines of faults and warnings, with people's names for what is at fault.
-ghost use Rattle.std.specs.Prelude.{◌≡◌, ◌++◌, IfOk, OnOk, drop, length, codes};
-ghost use Rattle.std.specs.Str.Lossy.{utf8_lossy};
-ghost use Rattle.omf_faults.specs.FaultLines as omf;
+ghost use Rattle.std.specs.Prelude.{◌≡◌, ◌++◌, IfOk, OnOk};
 ghost use Rattle.doslink_telling.specs.Lines as spec;
 ghost use Rattle.doslink_telling.specs.Lines.{IsTold};
 
-use crate::lines::{Lines, Part, push_front, push_located, push_name, push_parts, push_place};
+use crate::lines::push_located;
 use crate::telling::{cut_end, path_of, told_part};
 use doslink_files::ReadFault;
 use doslink_stock::StockFault;
@@ -13,6 +11,7 @@ use omf_faults::{LinkFault, fault_line};
 use omf_frame::IoFault;
 use omf_library::FormatFault;
 use omf_lower::Obstacle;
+use omf_text::{Lines, Piece, push_pieces};
 use std::alloc::{AllocError, Allocator};
 use std::io::ErrorKind;
 
@@ -62,14 +61,14 @@ pub fn push_unread_line<'p, A: Allocator + Copy>(
 ) -> Result<(), AllocError>
     ensures { OnOk result (lines.new.items ≡ lines.old.items ++ spec.unread_line name.now fault) }
 {
-    let parts = [
-        Part::Text("doslink: "),
-        Part::Text(name),
-        Part::Text(": 1 Device at record 0: "),
-        Part::Text(unread_text(fault)),
-        Part::Text("\n"),
+    let pieces = [
+        Piece::Text("doslink: "),
+        Piece::Text(name),
+        Piece::Text(": 1 Device at record 0: "),
+        Piece::Text(unread_text(fault)),
+        Piece::Text("\n"),
     ];
-    push_parts(lines, parts.as_slice())
+    push_pieces(lines, pieces.as_slice())
 }
 
 /// Why a file isn't written. `AlreadyExists` is that the path leads to one that was just written, and
@@ -99,14 +98,14 @@ pub fn push_unwritten_line<'p, A: Allocator + Copy>(
 ) -> Result<(), AllocError>
     ensures { OnOk result (lines.new.items ≡ lines.old.items ++ spec.unwritten_line path.now kind) }
 {
-    let parts = [
-        Part::Text("doslink: "),
-        Part::Text(path),
-        Part::Text(": 40 Device: "),
-        Part::Text(unwritten_text(kind)),
-        Part::Text("\n"),
+    let pieces = [
+        Piece::Text("doslink: "),
+        Piece::Text(path),
+        Piece::Text(": 40 Device: "),
+        Piece::Text(unwritten_text(kind)),
+        Piece::Text("\n"),
     ];
-    push_parts(lines, parts.as_slice())
+    push_pieces(lines, pieces.as_slice())
 }
 
 /// The number and the name that a fault of a library is printed with.
@@ -145,53 +144,41 @@ pub fn push_stock_fault<A: Allocator + Copy>(
 }
 
 /// Appends the warning that a default library was not found.
-pub fn push_absent_line<A: Allocator + Copy>(
-    alloc: A,
+pub fn push_absent_line<'p, A: Allocator + Copy>(
     lines: &mut Vec<u8, A>,
-    library: &[u8],
-    word: &[u8],
+    library: &'p [u8],
+    word: &'p [u8],
 ) -> Result<(), AllocError>
     ensures { OnOk result (lines.new.items ≡ lines.old.items ++ spec.absent_line library.now word.now) }
 {
-    lines.extend_from_slice(b"doslink: warning: library ")?;
-    push_name(alloc, lines, told_part(library))?;
-    let parts = [
-        Part::Text(cut_end(library)),
-        Part::Text(" of "),
-        Part::Bytes(word),
-        Part::Text(" was not found\n"),
+    let pieces = [
+        Piece::Text("doslink: warning: library "),
+        Piece::Name(told_part(library)),
+        Piece::Text(cut_end(library)),
+        Piece::Text(" of "),
+        Piece::Bytes(word),
+        Piece::Text(" was not found\n"),
     ];
-    push_parts(lines, parts.as_slice())
+    push_pieces(lines, pieces.as_slice())
 }
 
-/// The line of a fault as `omf` writes it, `word` standing before its number.
-fn omf_line<A: Allocator + Copy>(
+/// The line of a fault of the link, `word` standing before its number.
+fn line_of_fault<A: Allocator + Copy>(
     alloc: A,
     fault: &LinkFault<A>,
     word: &[u8],
 ) -> Result<Vec<u8, A>, AllocError>
-    ensures { IfOk result (λ line. line.items ≡ omf.fault_line fault.now (utf8_lossy word.now)) }
+    ensures { IfOk result (λ line. line.items ≡ spec.fault_line fault.now word.now) }
 {
     let word = String::from_utf8_lossy(alloc, word)?;
-    let mut line = Lines::new(alloc);
-    match fault_line(fault, word.as_str(), &mut line) {
+    let mut line = Lines::of(Vec::new(alloc));
+    match fault_line("doslink", fault, word.as_str(), &mut line) {
         Ok(()) => Ok(line.bytes),
         Err(IoFault) => Err(AllocError),
     }
 }
 
-/// What stands behind `omf` in a line that begins so.
-fn behind_name(line: &[u8]) -> &[u8]
-    ensures { result.now ≡ drop (length (codes "omf")) line.now }
-{
-    match line {
-        [_, _, _, rest @ ..] => rest,
-        _ => b"",
-    }
-}
-
-/// Appends the line of a fault of the link, `word` being that for the input at fault, or for the file that was written:
-/// the line that `omf` prints, with `doslink` in place of its name.
+/// Appends the line of a fault of the link, `word` being that for the input at fault, or for the file that was written.
 pub fn push_fault<A: Allocator + Copy>(
     alloc: A,
     lines: &mut Vec<u8, A>,
@@ -200,9 +187,8 @@ pub fn push_fault<A: Allocator + Copy>(
 ) -> Result<(), AllocError>
     ensures { OnOk result (lines.new.items ≡ lines.old.items ++ spec.fault_line fault.now word.now) }
 {
-    let line = omf_line(alloc, fault, word)?;
-    lines.extend_from_slice(b"doslink")?;
-    lines.extend_from_slice(behind_name(&line))
+    let line = line_of_fault(alloc, fault, word)?;
+    lines.extend_from_slice(&line)
 }
 
 /// The number and the name of what of a record can't be lowered.
@@ -248,18 +234,24 @@ pub fn push_overflow<A: Allocator + Copy>(
 
 /// Appends the line of an alias that goes round for ever, by the place of its record in the module for which this is
 /// the word.
-pub fn push_endless_alias<A: Allocator + Copy>(
-    alloc: A,
+pub fn push_endless_alias<'p, A: Allocator + Copy>(
     lines: &mut Vec<u8, A>,
-    word: &[u8],
+    word: &'p [u8],
     place: u64,
-    name: &[u8],
+    name: &'p [u8],
 ) -> Result<(), AllocError>
     ensures { OnOk result (lines.new.items ≡ lines.old.items ++ spec.endless_line word.now place name.now) }
 {
-    push_front(lines, word, ": 60 EndlessAlias ")?;
-    push_name(alloc, lines, name)?;
-    push_place(lines, " at record ", place)
+    let pieces = [
+        Piece::Text("doslink: "),
+        Piece::Bytes(word),
+        Piece::Text(": 60 EndlessAlias "),
+        Piece::Name(name),
+        Piece::Text(" at record "),
+        Piece::Count(place as usize),
+        Piece::Text("\n"),
+    ];
+    push_pieces(lines, pieces.as_slice())
 }
 
 /// Appends the warning that 32-bit segments of the module for which this is the word are linked as ones of 16 bits.
@@ -269,12 +261,12 @@ pub fn push_wide_line<A: Allocator + Copy>(
 ) -> Result<(), AllocError>
     ensures { OnOk result (lines.new.items ≡ lines.old.items ++ spec.wide_line word.now) }
 {
-    let parts = [
-        Part::Text("doslink: warning: 32-bit segments of "),
-        Part::Bytes(word),
-        Part::Text(" are linked as 16-bit ones\n"),
+    let pieces = [
+        Piece::Text("doslink: warning: 32-bit segments of "),
+        Piece::Bytes(word),
+        Piece::Text(" are linked as 16-bit ones\n"),
     ];
-    push_parts(lines, parts.as_slice())
+    push_pieces(lines, pieces.as_slice())
 }
 
 /// Appends the line of a path of a job that can't be used, and why.
@@ -285,14 +277,14 @@ pub fn push_path_line<'p, A: Allocator + Copy>(
 ) -> Result<(), AllocError>
     ensures { OnOk result (lines.new.items ≡ lines.old.items ++ spec.path_line path.now why.now) }
 {
-    let parts = [
-        Part::Text("doslink: "),
-        Part::Text(path),
-        Part::Text(": "),
-        Part::Text(why),
-        Part::Text("\n"),
+    let pieces = [
+        Piece::Text("doslink: "),
+        Piece::Text(path),
+        Piece::Text(": "),
+        Piece::Text(why),
+        Piece::Text("\n"),
     ];
-    push_parts(lines, parts.as_slice())
+    push_pieces(lines, pieces.as_slice())
 }
 
 /// Appends the line of an order that would have too many parts.

@@ -3,7 +3,7 @@ ghost use Rattle.std.specs.Prelude.{◌≡◌, ◌++◌, List, OnOk, codes, take
 ghost use Rattle.std.specs.List.{list_all};
 ghost use Rattle.doslink_telling.specs.Kinds as spec;
 
-use crate::lines::{Part, push_parts};
+use omf_text::{Piece, push_pieces};
 use std::alloc::{AllocError, Allocator};
 
 /// What a file is that is no object module.
@@ -135,10 +135,10 @@ pub fn push_foreign<A: Allocator + Copy>(
         return Ok(());
     };
     lines.pop();
-    let parts = [
-        Part::Text(": "),
-        Part::Text(foreign_text(kind)),
-        Part::Text("\n"),
+    let pieces = [
+        Piece::Text(": "),
+        Piece::Text(foreign_text(kind)),
+        Piece::Text("\n"),
     ];
-    push_parts(lines, parts.as_slice())
+    push_pieces(lines, pieces.as_slice())
 }

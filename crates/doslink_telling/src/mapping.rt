@@ -8,10 +8,10 @@ ghost use Rattle.omf_text.specs.Printing.{hexadecimal};
 ghost use Rattle.omf_search.specs.Results.{bytes_of};
 ghost use Rattle.doslink_telling.specs.Table as spec;
 
-use crate::lines::{Part, push_name, push_parts};
 use crate::missing::header_name;
 use omf_module::{Module, Segment};
 use omf_place::{Layout, Position};
+use omf_text::{Piece, push_pieces};
 use std::alloc::{AllocError, Allocator};
 
 /// An address as a number, and ` R` where it moves with the program, else ` A`.
@@ -26,7 +26,6 @@ fn place_of(position: Position) -> (u32, &'static str)
 
 /// Appends where a segment starts, its length, its name and its class.
 fn push_segment<A: Allocator + Copy>(
-    alloc: A,
     text: &mut Vec<u8, A>,
     position: Position,
     segment: &Segment<'_>,
@@ -34,24 +33,23 @@ fn push_segment<A: Allocator + Copy>(
     ensures { OnOk result (text.new.items ≡ text.old.items ++ spec.segment_line position (segment_seen segment.now)) }
 {
     let (start, mark) = place_of(position);
-    let parts = [
-        Part::Text(" "),
-        Part::Address(start),
-        Part::Text(mark),
-        Part::Text(" "),
-        Part::Address(segment.length),
-        Part::Text(" "),
+    let pieces = [
+        Piece::Text(" "),
+        Piece::Address(start),
+        Piece::Text(mark),
+        Piece::Text(" "),
+        Piece::Address(segment.length),
+        Piece::Text(" "),
+        Piece::Name(segment.name),
+        Piece::Text(" "),
+        Piece::Name(segment.class),
+        Piece::Text("\n"),
     ];
-    push_parts(text, parts.as_slice())?;
-    push_name(alloc, text, segment.name)?;
-    text.extend_from_slice(b" ")?;
-    push_name(alloc, text, segment.class)?;
-    text.extend_from_slice(b"\n")
+    push_pieces(text, pieces.as_slice())
 }
 
 /// Appends the segments of a module, which has this index.
 fn push_segments<A: Allocator + Copy>(
-    alloc: A,
     text: &mut Vec<u8, A>,
     layout: &Layout<A>,
     input: usize,
@@ -63,23 +61,26 @@ fn push_segments<A: Allocator + Copy>(
 {
     for segment in 0..from.segment_count() {
         let position = layout.segment_position(input, segment);
-        push_segment(alloc, text, position, &from.segment(segment))?;
+        push_segment(text, position, &from.segment(segment))?;
     }
     Ok(())
 }
 
 /// Appends the line of a module: its name, and the word for where it stands.
-fn push_module_line<A: Allocator + Copy>(
-    alloc: A,
+fn push_module_line<'p, A: Allocator + Copy>(
     text: &mut Vec<u8, A>,
-    word: &[u8],
-    bytes: &[u8],
+    word: &'p [u8],
+    bytes: &'p [u8],
 ) -> Result<(), AllocError>
     ensures { OnOk result (text.new.items ≡ text.old.items ++ spec.module_line word.now bytes.now) }
 {
-    push_name(alloc, text, header_name(bytes).unwrap_or(b""))?;
-    let parts = [Part::Text(" "), Part::Bytes(word), Part::Text("\n")];
-    push_parts(text, parts.as_slice())
+    let pieces = [
+        Piece::Name(header_name(bytes).unwrap_or(b"")),
+        Piece::Text(" "),
+        Piece::Bytes(word),
+        Piece::Text("\n"),
+    ];
+    push_pieces(text, pieces.as_slice())
 }
 
 /// The slice with this index; empty behind the last.
@@ -106,13 +107,8 @@ pub fn table<A: Allocator + Copy>(
 {
     let mut text = Vec::from_slice(alloc, b"modules\n")?;
     for (input, from) in modules.iter().enumerate() {
-        push_module_line(
-            alloc,
-            &mut text,
-            slice_at(words, input),
-            slice_at(inputs, input),
-        )?;
-        push_segments(alloc, &mut text, layout, input, from)?;
+        push_module_line(&mut text, slice_at(words, input), slice_at(inputs, input))?;
+        push_segments(&mut text, layout, input, from)?;
     }
     Ok(text)
 }

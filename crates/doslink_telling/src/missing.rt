@@ -1,15 +1,15 @@
 //! The names that no module and no library offers, and their lines.
-ghost use Rattle.std.specs.Prelude.{◌≡◌, ◌++◌, [], IfOk, OnOk, map, slice_get};
-ghost use Rattle.std.specs.List.{flat_map};
+ghost use Rattle.std.specs.Prelude.{◌≡◌, ◌++◌, ◌∷◌, [], IfOk, OnOk, codes, map, slice_get};
+ghost use Rattle.std.specs.List.{concat, flat_map};
 ghost use Rattle.std.specs.Option.{option_copied, option_map, option_map_or};
 ghost use Rattle.omf_search.specs.Results.{bytes_of, module_said, offered_said, wanted_said};
+ghost use Rattle.omf_text.specs.Printing.{printed_name};
 ghost use Rattle.doslink_stock.specs.Seen.{entry_held, handed_held};
 ghost use Rattle.doslink_telling.specs.Missing as spec;
 ghost use Rattle.doslink_telling.specs.Missing.{like_offered, unmet, wants_marks};
 ghost use Rattle.doslink_telling.specs.Table.{header_name};
 ghost use Rattle.doslink_telling.specs.inside.Wanters.{wanter_held};
 
-use crate::lines::{Part, push_front, push_name, push_parts};
 use crate::telling::{handed_saids, module_word};
 use crate::wanting::{Wanter, wanters_of};
 use crate::warnings::push_more_line;
@@ -17,6 +17,7 @@ use doslink_stock::{Entry, Handed, Stock, members_of};
 use omf_alias::agree;
 use omf_place::Names;
 use omf_search::{Offered, Said, Wanted, Whose, likes, missing};
+use omf_text::{Piece, push_pieces};
 use std::alloc::{AllocError, Allocator};
 
 /// How many missing names are told, where not all are.
@@ -108,9 +109,8 @@ fn push_offering<A: Allocator + Copy>(
         ++ spec.offering_text paths.now name.now (entry_held entry.now)) }
 {
     let word = module_word(alloc, paths, entry)?;
-    lines.extend_from_slice(b"; ")?;
-    push_name(alloc, lines, name)?;
-    lines.extend_from_slice(b" is in ")?;
+    let pieces = [Piece::Text("; "), Piece::Name(name), Piece::Text(" is in ")];
+    push_pieces(lines, pieces.as_slice())?;
     lines.extend_from_slice(&word)
 }
 
@@ -145,34 +145,49 @@ fn push_record<A: Allocator + Copy>(
 {
     match place {
         Some(place) => {
-            let parts = [
-                Part::Text(": record "),
-                Part::Count(place),
-                Part::Text(" ("),
-                Part::Place(place),
-                Part::Text(")"),
+            let pieces = [
+                Piece::Text(": record "),
+                Piece::Count(place as usize),
+                Piece::Text(" ("),
+                Piece::FilePlace(place),
+                Piece::Text(")"),
             ];
-            push_parts(lines, parts.as_slice())
+            push_pieces(lines, pieces.as_slice())
         }
         None => Ok(()),
     }
 }
 
 /// Appends the name in a module's header, if it has one.
-fn push_header<A: Allocator + Copy>(
-    alloc: A,
-    lines: &mut Vec<u8, A>,
-    bytes: &[u8],
-) -> Result<(), AllocError>
+fn push_header<A: Allocator + Copy>(lines: &mut Vec<u8, A>, bytes: &[u8]) -> Result<(), AllocError>
     ensures { OnOk result (lines.new.items ≡ lines.old.items ++ spec.header_text (header_name bytes.now)) }
 {
     match header_name(bytes) {
         Some(header) => {
-            lines.extend_from_slice(b", wanted by ")?;
-            push_name(alloc, lines, header)
+            let pieces = [Piece::Text(", wanted by "), Piece::Name(header)];
+            push_pieces(lines, pieces.as_slice())
         }
         None => Ok(()),
     }
+}
+
+/// Appends that what the word stands for wants a name that is missing.
+fn push_lacking<'p, A: Allocator + Copy>(
+    lines: &mut Vec<u8, A>,
+    word: &'p [u8],
+    name: &'p [u8],
+) -> Result<(), AllocError>
+    ensures { OnOk result (lines.new.items ≡ lines.old.items
+        ++ concat (codes "doslink: " ∷ word.now ∷ codes ": " ∷ printed_name name.now ∷ codes " is missing" ∷ [])) }
+{
+    let pieces = [
+        Piece::Text("doslink: "),
+        Piece::Bytes(word),
+        Piece::Text(": "),
+        Piece::Name(name),
+        Piece::Text(" is missing"),
+    ];
+    push_pieces(lines, pieces.as_slice())
 }
 
 /// Appends that a module wants a name that is missing.
@@ -187,11 +202,9 @@ fn push_wanting<'a, A: Allocator + Copy>(
         ++ spec.wanting_text paths.now name.now (wanter_held wanter.now)) }
 {
     let word = module_word(alloc, paths, wanter.entry)?;
-    push_front(lines, &word, ": ")?;
-    push_name(alloc, lines, name)?;
-    lines.extend_from_slice(b" is missing")?;
+    push_lacking(lines, &word, name)?;
     push_record(lines, wanter.place(name))?;
-    push_header(alloc, lines, wanter.entry.bytes)
+    push_header(lines, wanter.entry.bytes)
 }
 
 /// Appends that the module with this index wants a name that is missing.

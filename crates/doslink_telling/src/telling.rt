@@ -6,9 +6,9 @@ ghost use Rattle.doslink_stock.specs.Files.{needs};
 ghost use Rattle.doslink_stock.specs.Seen.{entry_held, handed_held};
 ghost use Rattle.doslink_telling.specs.Words as spec;
 
-use crate::lines::{plain_name, push_name};
 use doslink_stock::{Entry, Handed};
 use omf_search::Said;
+use omf_text::{Piece, push_pieces};
 use std::alloc::{AllocError, Allocator};
 
 /// The path of the file with this index; empty behind the last.
@@ -53,18 +53,16 @@ pub(crate) fn cut_end(name: &[u8]) -> &'static str
 }
 
 /// Appends a member's name in parentheses.
-fn push_member<A: Allocator + Copy>(
-    alloc: A,
-    word: &mut Vec<u8, A>,
-    member: &[u8],
-) -> Result<(), AllocError>
+fn push_member<A: Allocator + Copy>(word: &mut Vec<u8, A>, member: &[u8]) -> Result<(), AllocError>
     ensures { OnOk result (word.new.items ≡ word.old.items ++ spec.member_end (Some member.now)) }
 {
-    let name = plain_name(alloc, told_part(member))?;
-    word.extend_from_slice(b"(")?;
-    word.extend_from_slice(&name)?;
-    word.extend_from_slice(cut_end(member).as_bytes())?;
-    word.extend_from_slice(b")")
+    let pieces = [
+        Piece::Text("("),
+        Piece::PlainName(told_part(member)),
+        Piece::Text(cut_end(member)),
+        Piece::Text(")"),
+    ];
+    push_pieces(word, pieces.as_slice())
 }
 
 /// The word for a module: its file's path, and behind it the member's name in parentheses.
@@ -77,7 +75,7 @@ pub fn module_word<A: Allocator + Copy>(
 {
     let mut word = Vec::from_slice(alloc, path_of(paths, entry.file).as_bytes())?;
     if let Some(member) = entry.member {
-        push_member(alloc, &mut word, member)?;
+        push_member(&mut word, member)?;
     }
     Ok(word)
 }
@@ -92,7 +90,7 @@ pub fn member_word<A: Allocator + Copy>(
     ensures { IfOk result (λ word. word.items ≡ spec.path_of paths.now file ++ spec.member_end (Some name.now)) }
 {
     let mut word = Vec::from_slice(alloc, path_of(paths, file).as_bytes())?;
-    push_member(alloc, &mut word, name)?;
+    push_member(&mut word, name)?;
     Ok(word)
 }
 
@@ -129,7 +127,6 @@ pub fn handed_saids<'h, 'a, A: Allocator + Copy>(
 
 /// Appends the line of a module that is linked, with the name for which it was taken.
 fn push_handed<A: Allocator + Copy>(
-    alloc: A,
     text: &mut Vec<u8, A>,
     word: &[u8],
     wanted: Option<&[u8]>,
@@ -138,11 +135,13 @@ fn push_handed<A: Allocator + Copy>(
         ++ (word.now ++ spec.taken_end (option_copied wanted.entry))) }
 {
     text.extend_from_slice(word)?;
-    if let Some(name) = wanted {
-        text.extend_from_slice(b" for ")?;
-        push_name(alloc, text, name)?;
+    match wanted {
+        None => text.extend_from_slice(b"\n"),
+        Some(name) => {
+            let pieces = [Piece::Text(" for "), Piece::Name(name), Piece::Text("\n")];
+            push_pieces(text, pieces.as_slice())
+        }
     }
-    text.extend_from_slice(b"\n")
 }
 
 /// Each module in its order, a line for each, with the name for which it was taken where it is a member. The words are
@@ -156,7 +155,7 @@ pub fn handed_text<A: Allocator + Copy>(
 {
     let mut text = Vec::new(alloc);
     for (index, each) in handed.iter().enumerate() {
-        push_handed(alloc, &mut text, word_at(words, index), each.wanted)?;
+        push_handed(&mut text, word_at(words, index), each.wanted)?;
     }
     Ok(text)
 }

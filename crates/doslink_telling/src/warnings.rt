@@ -4,9 +4,9 @@ ghost use Rattle.std.specs.List.{concat};
 ghost use Rattle.omf_faults.specs.FaultLines.{program_label, text_of};
 ghost use Rattle.doslink_telling.specs.Warnings as spec;
 
-use crate::lines::{Part, push_front, push_name, push_parts};
 use itoa::Buffer;
 use omf_faults::ProgramFault;
+use omf_text::{Piece, push_pieces};
 use std::alloc::{AllocError, Allocator};
 
 /// Appends a number with commas between its groups of three digits.
@@ -58,17 +58,21 @@ pub fn push_no_program<A: Allocator + Copy>(lines: &mut Vec<u8, A>) -> Result<()
 
 /// Appends that data with values stands in a segment that start-up code clears, of the module for which this is the
 /// word.
-pub fn push_data_in_bss<A: Allocator + Copy>(
-    alloc: A,
+pub fn push_data_in_bss<'p, A: Allocator + Copy>(
     lines: &mut Vec<u8, A>,
-    segment: &[u8],
-    word: &[u8],
+    segment: &'p [u8],
+    word: &'p [u8],
 ) -> Result<(), AllocError>
     ensures { OnOk result (lines.new.items ≡ lines.old.items ++ spec.data_in_bss_line segment.now word.now) }
 {
-    push_front(lines, word, ": 62 DataInBss ")?;
-    push_name(alloc, lines, segment)?;
-    lines.extend_from_slice(b"\n")
+    let pieces = [
+        Piece::Text("doslink: "),
+        Piece::Bytes(word),
+        Piece::Text(": 62 DataInBss "),
+        Piece::Name(segment),
+        Piece::Text("\n"),
+    ];
+    push_pieces(lines, pieces.as_slice())
 }
 
 /// Appends the number and the name of a fault of modules together.
@@ -80,18 +84,17 @@ fn push_program_label<A: Allocator + Copy>(
         ∷ decimal (program_label fault.now).0 ∷ codes " " ∷ (program_label fault.now).1 ∷ [])) }
 {
     let (number, name) = fault.label();
-    let parts = [
-        Part::Text("doslink: link: "),
-        Part::Count(u64::from(number)),
-        Part::Text(" "),
-        Part::Text(name),
+    let pieces = [
+        Piece::Text("doslink: link: "),
+        Piece::Count(usize::from(number)),
+        Piece::Text(" "),
+        Piece::Text(name),
     ];
-    push_parts(lines, parts.as_slice())
+    push_pieces(lines, pieces.as_slice())
 }
 
 /// Appends the name of what is at fault, where it has one.
 fn push_name_at_fault<A: Allocator + Copy>(
-    alloc: A,
     lines: &mut Vec<u8, A>,
     name: Option<&[u8]>,
 ) -> Result<(), AllocError>
@@ -100,8 +103,8 @@ fn push_name_at_fault<A: Allocator + Copy>(
     match name {
         None => Ok(()),
         Some(name) => {
-            lines.extend_from_slice(b" ")?;
-            push_name(alloc, lines, name)
+            let pieces = [Piece::Text(" "), Piece::Name(name)];
+            push_pieces(lines, pieces.as_slice())
         }
     }
 }
@@ -119,7 +122,6 @@ fn over_end(bytes: u64) -> &'static str
 
 /// Appends the line of a segment, a program or a group that is too long, which is this fault, and by how many bytes.
 pub fn push_excess<A: Allocator + Copy>(
-    alloc: A,
     lines: &mut Vec<u8, A>,
     fault: &ProgramFault<A>,
     bytes: u64,
@@ -127,7 +129,7 @@ pub fn push_excess<A: Allocator + Copy>(
     ensures { OnOk result (lines.new.items ≡ lines.old.items ++ spec.excess_line fault.now bytes) }
 {
     push_program_label(lines, fault)?;
-    push_name_at_fault(alloc, lines, fault.name_at_fault())?;
+    push_name_at_fault(lines, fault.name_at_fault())?;
     push_counted(lines, ": ", bytes, over_end(bytes))
 }
 
@@ -175,22 +177,21 @@ pub fn push_no_code<A: Allocator + Copy>(lines: &mut Vec<u8, A>) -> Result<(), A
 }
 
 /// Appends the warning that the module for which this is the word reaches a far communal variable by its offset alone.
-pub fn push_reached<A: Allocator + Copy>(
-    alloc: A,
+pub fn push_reached<'p, A: Allocator + Copy>(
     lines: &mut Vec<u8, A>,
-    name: &[u8],
-    word: &[u8],
+    name: &'p [u8],
+    word: &'p [u8],
 ) -> Result<(), AllocError>
     ensures { OnOk result (lines.new.items ≡ lines.old.items ++ spec.reached_line name.now word.now) }
 {
-    let parts = [
-        Part::Text(" of "),
-        Part::Bytes(word),
-        Part::Text(
+    let pieces = [
+        Piece::Text("doslink: warning: "),
+        Piece::Name(name),
+        Piece::Text(" of "),
+        Piece::Bytes(word),
+        Piece::Text(
             " is far and reached by its offset alone: declare it near (NASM: common NAME:near SIZE)\n",
         ),
     ];
-    lines.extend_from_slice(b"doslink: warning: ")?;
-    push_name(alloc, lines, name)?;
-    push_parts(lines, parts.as_slice())
+    push_pieces(lines, pieces.as_slice())
 }

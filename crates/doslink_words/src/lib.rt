@@ -23,4 +23,4 @@ pub use job::{
 };
 pub use responses::{response_word, text_asked};
 pub use tokens::split_words;
-pub use words::{WordsFault, parse_words};
+pub use words::parse_words;

@@ -2,9 +2,8 @@
 ghost use Rattle.std.specs.Prelude.{◌≡◌, ◌==◌, ◌&&◌, IfErr, IfOk, [], codes, false, is_some, map, not, true};
 ghost use Rattle.std.specs.List.{slice_split};
 ghost use Rattle.std.specs.Option.{option_and_then, option_map};
-ghost use Rattle.clap.specs.Words.{app_of, found_of, is_simple_and_free, kind_of, rows_of, rule_of};
+ghost use Rattle.clap.specs.Words.{app_of, found_of, is_simple_and_free, rows_of, rule_of};
 ghost use Rattle.clap.specs.declared.Command.{out-Command as fields_of};
-ghost use Rattle.clap.specs.declared.error.ErrorKind.TheVariants.{OutOfMemory};
 ghost use Rattle.doslink_words.specs.Named as named;
 ghost use Rattle.doslink_words.specs.Said.{At, Class, items_of, inputs_of, map_of, order_of};
 ghost use Rattle.doslink_words.specs.Sizes as size;
@@ -12,17 +11,14 @@ ghost use Rattle.doslink_words.specs.Tokens.{texts};
 ghost use Rattle.doslink_words.specs.declared.named.Expected.TheVariants.{Any};
 ghost use Rattle.doslink_words.specs.Words as spec;
 ghost use Rattle.doslink_words.specs.Words.{AreTaken, IsJobFor, IsJobOf};
-ghost use Rattle.doslink_words.specs.declared.words.WordsFault.TheVariants.{Memory};
 
 use crate::job::{Form, Input, Job, MapFile, MapForm, Order, OrderItem, Stack, has_header};
 use crate::keywords::is;
 use crate::named::{in_order, kinds_named};
 use crate::sizes::{paragraph, stack_bytes};
-use clap::error::ErrorKind;
 use clap::{Arg, ArgAction, ArgMatches, Command};
-use command_line::{VERSION, case_flag, files, flag, map_option, with_arg};
+use command_line::{VERSION, WordsFault, case_flag, files, flag, map_option, refusal, with_arg};
 use std::alloc::{AllocError, Global};
-use thiserror::Error;
 
 /// What stands at the end of help.
 const NOTES: &str = "\
@@ -33,28 +29,6 @@ option, order, reference, alias). Under the names `link` and `tlink`, or behind 
 Exit status: 0 all is done, 1 an input is at fault, 2 wrong arguments, 3 a file or\n\
 device failed or out of memory. A fault is one line on standard error; docs/FAULTS.md\n\
 and the man page say what to do about each.";
-
-/// Why the words are no job.
-#[derive(Debug, Drop, Error)]
-pub enum WordsFault {
-    /// They ask for help, which is this text.
-    #[error("{0}")]
-    Help(String),
-    /// They are wrong, and this text says why.
-    #[error("{0}")]
-    Wrong(String),
-    /// There was no memory.
-    #[error("out of memory")]
-    Memory,
-}
-
-impl From<AllocError> for WordsFault {
-    ghost from_gives = { λ _ e. e ≡ Memory };
-
-    fn from(_error: AllocError) -> WordsFault {
-        WordsFault::Memory
-    }
-}
 
 // The program that is written.
 fn out_option<'a>(alloc: Global) -> Arg<'a>
@@ -182,20 +156,6 @@ fn doslink_command<'a>(alloc: Global) -> Result<Command<'a>, AllocError>
     let command = with_arg(command, flag(alloc, "no-default-libs", no_defaults));
     let command = with_arg(command, flag(alloc, "keep-debug", debug));
     with_arg(command, verbose_flag(alloc))
-}
-
-// What the parser says of the words.
-fn refusal(alloc: Global, error: &clap::Error) -> WordsFault
-    ensures { kind_of error.now ≡ OutOfMemory → result ≡ WordsFault.Memory }
-{
-    if error.kind() == ErrorKind::OutOfMemory {
-        return WordsFault::Memory;
-    }
-    match error.to_string(alloc) {
-        Err(_) => WordsFault::Memory,
-        Ok(text) if error.use_stderr() => WordsFault::Wrong(text),
-        Ok(text) => WordsFault::Help(text),
-    }
 }
 
 // The values of an argument, none where it isn't given.
@@ -511,7 +471,7 @@ fn checked_job<'a>(
     ensures job { IfOk result (λ job. (spec.has_wrong_value (rows_of (found_of values.now)) ≡ false)
         × IsJobOf (texts words.now) (rows_of (found_of values.now)) job) }
     ensures refused { spec.has_wrong_value (rows_of (found_of values.now)) ≡ false
-        → IfErr result (λ fault. fault ≡ Memory) }
+        → IfErr result (λ fault. fault ≡ WordsFault.Memory) }
 {
     check_values(alloc, values)?;
     Ok(job_of(alloc, words, values)?)
@@ -521,7 +481,7 @@ fn checked_job<'a>(
 /// them, with a stack of a length that there is and forms that there are, are refused for nothing but want of memory.
 pub fn parse_words<'a>(alloc: Global, words: &'a [&'a str]) -> Result<Job<'a>, WordsFault>
     ensures job { IfOk result (IsJobFor (texts words.entry.now)) }
-    ensures refused { AreTaken (texts words.entry.now) → IfErr result (λ fault. fault ≡ Memory) }
+    ensures refused { AreTaken (texts words.entry.now) → IfErr result (λ fault. fault ≡ WordsFault.Memory) }
     // What is at fault, and the matches, are those that the parser promises of simple commands.
     ensures simple { is_simple_and_free spec.doslink_command ≡ true }
 {

@@ -12,7 +12,7 @@ use Rattle.omf_image.specs.declared.faults.FixFault.{FixFault}
 use Rattle.omf_image.specs.declared.faults.FixFault.TheVariants as build
 use Rattle.omf_image.specs.declared.faults.FixKind.{FixKind}
 use Rattle.omf_image.specs.Registers.{program_fault}
-use Rattle.omf_faults.specs.FaultLines.{program_line}
+use Rattle.omf_faults.specs.FaultLines.{program_text}
 use Rattle.omf_faults.specs.declared.fault.InputFault.TheVariants as input
 use Rattle.omf_faults.specs.declared.fault.ProgramFault.{ProgramFault}
 use Rattle.omf_faults.specs.declared.fault.ProgramFault.TheVariants as program
@@ -35,11 +35,11 @@ same_refl link.Memory = refl
 
 -- what a fault of the modules together tells, by what it says
 told_of : Option PlacementFault → Option ℕ × Option ℕ × (List ℕ → List ℕ)
-told_of (Some (SegmentTooLong name)) = (Some 22, None, λ file. program_line (22, codes "SegmentTooLong") (Some name))
-told_of (Some ProgramTooLarge) = (Some 23, None, λ file. program_line (23, codes "ProgramTooLarge") None)
-told_of (Some (GroupTooLong name)) = (Some 24, None, λ file. program_line (24, codes "GroupTooLong") (Some name))
-told_of (Some (DuplicatePublic name)) = (Some 25, None, λ file. program_line (25, codes "DuplicatePublic") (Some name))
-told_of None = (Some 34, None, λ file. program_line (34, codes "TooManyRelocations") None)
+told_of (Some (SegmentTooLong name)) = (Some 22, None, λ file. program_text (22, codes "SegmentTooLong") (Some name))
+told_of (Some ProgramTooLarge) = (Some 23, None, λ file. program_text (23, codes "ProgramTooLarge") None)
+told_of (Some (GroupTooLong name)) = (Some 24, None, λ file. program_text (24, codes "GroupTooLong") (Some name))
+told_of (Some (DuplicatePublic name)) = (Some 25, None, λ file. program_text (25, codes "DuplicatePublic") (Some name))
+told_of None = (Some 34, None, λ file. program_text (34, codes "TooManyRelocations") None)
 
 program_told : {A : Type 0} (f : ProgramFault A) → telling (link.Program f) ≡ told_of (program_said f)
 unfolding told_of

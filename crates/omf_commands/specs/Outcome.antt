@@ -7,7 +7,7 @@ use Rattle.omf_module.specs.declared.fault.FaultKind.{FaultKind}
 use Rattle.omf_module.specs.Bytes.{ModuleBytes, ReadingFault}
 use Rattle.omf_module.specs.Tables.{module_of}
 use Rattle.omf_place.specs.declared.names.Names.{Names}
-use Rattle.omf_faults.specs.FaultLines.{number, input, fault_line}
+use Rattle.omf_faults.specs.FaultLines.{number, input, fault_text}
 use Rattle.omf_faults.specs.declared.fault.LinkFault.{LinkFault}
 use Rattle.omf_faults.specs.declared.fault.LinkFault.TheVariants as link
 use Rattle.omf_commands.specs.Linking.{program_said, IsModulesFault}
@@ -18,10 +18,10 @@ abbrev pub SameFault : {A : Type 0} → LinkFault A → LinkFault A → Type 0
 SameFault (link.Program fault) (link.Program other) = program_said fault ≡ program_said other
 SameFault fault other = fault ≡ other
 
--- what a fault tells: its number, the input at fault, and its line, with place and name, for each word before the
--- number
+-- what a fault tells: its number, the input at fault, and its line behind the program's name, with place and name, for
+-- each word before the number
 abbrev pub telling : {A : Type 0} → LinkFault A → Option ℕ × Option ℕ × (List ℕ → List ℕ)
-telling fault = (number fault, input fault, fault_line fault)
+telling fault = (number fault, input fault, fault_text fault)
 
 -- A fault stands in these inputs behind those that are modules of `before`: the reading fault of the first that has
 -- one, else the first fault of the modules of all.

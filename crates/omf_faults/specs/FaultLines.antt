@@ -85,19 +85,18 @@ unfoldable pub line_end : Option ℕ → List ℕ
 line_end None = codes "\n"
 line_end (Some at) = concat (codes " byte " ∷ decimal at ∷ codes "\n" ∷ [])
 
--- the line of a fault up to its name, `word` standing before its number
+-- the line of a fault behind the program's name, up to the fault's name; `word` stands before its number
 unfoldable pub line_start : (word : List ℕ) (label : ℕ × List ℕ) → List ℕ
-line_start word label = concat (codes "omf: " ∷ word ∷ codes ": " ∷ decimal label.0 ∷ codes " " ∷ label.1 ∷ [])
+line_start word label = concat (word ∷ codes ": " ∷ decimal label.0 ∷ codes " " ∷ label.1 ∷ [])
 
--- the line of a fault of a record up to its place, `file` being its input
+-- the line of a fault of a record behind the program's name, up to its place; `file` is its input
 unfoldable pub line_front : (file : List ℕ) (number : ℕ) (name : List ℕ) (place : ℕ) → List ℕ
 line_front file number name place =
-    concat (codes "omf: " ∷ file ∷ codes ": " ∷ decimal number ∷ codes " " ∷ name
-    ∷ codes " at record " ∷ decimal place ∷ [])
+    concat (file ∷ codes ": " ∷ decimal number ∷ codes " " ∷ name ∷ codes " at record " ∷ decimal place ∷ [])
 
--- the line of a fault of a record
-abbrev pub record_line : (file : List ℕ) (label : ℕ × List ℕ) (place : ℕ) (place_in_body : Option ℕ) → List ℕ
-record_line file label place place_in_body = line_front file label.0 label.1 place ++ line_end place_in_body
+-- the line of a fault of a record behind the program's name
+abbrev pub record_text : (file : List ℕ) (label : ℕ × List ℕ) (place : ℕ) (place_in_body : Option ℕ) → List ℕ
+record_text file label place place_in_body = line_front file label.0 label.1 place ++ line_end place_in_body
 
 -- the text of a reference, where there is one
 abbrev pub text_of : Option (Bor (List ℕ)) → Option (List ℕ)
@@ -108,19 +107,31 @@ abbrev pub name_end : Option (List ℕ) → List ℕ
 name_end None = codes "\n"
 name_end (Some name) = codes " " ++ (printed_name name ++ codes "\n")
 
--- the line of a fault of the modules together
-abbrev pub program_line : (label : ℕ × List ℕ) (name : Option (List ℕ)) → List ℕ
-program_line label name = line_start (codes "link") label ++ name_end name
+-- the line of a fault of the modules together behind the program's name
+abbrev pub program_text : (label : ℕ × List ℕ) (name : Option (List ℕ)) → List ℕ
+program_text label name = line_start (codes "link") label ++ name_end name
 
--- the line of a fault of a program's file
-abbrev pub file_line : (file : List ℕ) (label : ℕ × List ℕ) → List ℕ
-file_line file label = line_start file label ++ codes "\n"
+-- the line of a fault of a program's file behind the program's name
+abbrev pub file_text : (file : List ℕ) (label : ℕ × List ℕ) → List ℕ
+file_text file label = line_start file label ++ codes "\n"
 
--- the line of a fault; `file` is the word before the number
-abbrev pub fault_line : {A : Type 0} → LinkFault A → List ℕ → List ℕ
-fault_line link.Memory file = codes "omf: memory\n"
-fault_line link.Output file = concat (codes "omf: " ∷ file ∷ codes ": 40 Device\n" ∷ [])
-fault_line (link.Device input place) file = record_line file (1, codes "Device") place None
-fault_line (link.Record input place fault') file = record_line file (label fault') place (place_in_body fault')
-fault_line (link.Program fault') file = program_line (program_label fault') (name_at_fault fault')
-fault_line (link.File fault') file = file_line file (file_label fault')
+-- the line of an output that failed behind the program's name
+abbrev pub output_text : (file : List ℕ) → List ℕ
+output_text file = file ++ codes ": 40 Device\n"
+
+-- the line of a fault behind the program's name; `file` is the word before the number
+abbrev pub fault_text : {A : Type 0} → LinkFault A → (file : List ℕ) → List ℕ
+fault_text link.Memory file = codes "memory\n"
+fault_text link.Output file = output_text file
+fault_text (link.Device input place) file = record_text file (1, codes "Device") place None
+fault_text (link.Record input place fault') file = record_text file (label fault') place (place_in_body fault')
+fault_text (link.Program fault') file = program_text (program_label fault') (name_at_fault fault')
+fault_text (link.File fault') file = file_text file (file_label fault')
+
+-- a text behind the name of the program that tells it
+abbrev pub told_by : (program text : List ℕ) → List ℕ
+told_by program text = program ++ (codes ": " ++ text)
+
+-- the line of a fault, as the program of this name tells it
+abbrev pub fault_line : {A : Type 0} → (program : List ℕ) → LinkFault A → (file : List ℕ) → List ℕ
+fault_line program fault file = told_by program (fault_text fault file)

@@ -1,10 +1,12 @@
 -- How a run ends: what its command answered, the line that says so, and the exit status.
 use Rattle.std.specs.Prelude.{◌≡◌, ℕ, List, [], ◌++◌, ◌⊎◌, Bool, true, Ok, Err, IsOkUnless, OnOk, if◌then◌else◌}
-use Rattle.std.specs.Prelude.{string_bytes}
+use Rattle.std.specs.Prelude.{codes, string_bytes}
 use Rattle.std.specs.declared.option.Option.{Option}
 use Rattle.std.specs.declared.result.Result.{Result}
 use Rattle.std.specs.Io.KnownBytes.{Appends, Keeps}
 use Rattle.clap.specs.Words.{Text, takes}
+use Rattle.command_line.specs.declared.words_fault.WordsFault.{WordsFault}
+use Rattle.command_line.specs.declared.words_fault.WordsFault.TheVariants.{Help, Wrong, Memory}
 use Rattle.omf_frame.specs.declared.device.IoFault.{IoFault}
 use Rattle.omf_frame.specs.Device.{Writes}
 use Rattle.omf_frame.specs.Frame.{frame}
@@ -23,8 +25,6 @@ use Rattle.omf_commands.specs.Loading.{LoadsFile}
 use Rattle.omf_commands.specs.Outcome.{AreTold, Outcome}
 use Rattle.omf_words.specs.declared.words.Job.{Job}
 use Rattle.omf_words.specs.declared.words.Job.TheVariants.{Show, Check, Rewrite, Link, Load}
-use Rattle.omf_words.specs.declared.words.WordsFault.{WordsFault}
-use Rattle.omf_words.specs.declared.words.WordsFault.TheVariants.{Help, Wrong, Memory}
 use Rattle.omf_words.specs.Words.{IsJobFor, IsRefusalFor, omf_command}
 
 -- 0 where it is done, else the status of the fault
@@ -35,7 +35,7 @@ exit_status (Err fault) = status fault
 -- the line that says why a command stopped, and nothing where it is done; `file` is the word before the fault's number
 abbrev pub told_line : {A : Type 0} → Result (Unit {0}) (LinkFault A) → (file : Text) → List ℕ
 told_line (Ok done) file = []
-told_line (Err fault) file = fault_line fault file
+told_line (Err fault) file = fault_line (codes "omf") fault file
 
 -- this was written to a sink, or a front of it where the sink failed
 abbrev pub Tells : {K : Type 0} → (written : K → Option (List ℕ)) → (failures : K → ℕ) → (old new : K) → List ℕ

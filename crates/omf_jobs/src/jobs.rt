@@ -13,11 +13,12 @@ ghost use Rattle.omf_words.specs.Words.{texts};
 ghost use Rattle.omf_jobs.specs.Jobs.{Answers, Ends, EndsRefused, Prints, Runs, Settled, Tells, canonical_record};
 ghost use Rattle.omf_jobs.specs.Jobs.{exit_status, names_of, told_line};
 
+use command_line::WordsFault;
 use omf_commands::{Options, Report, check, link, load_file, rewrite, show, write_map};
 use omf_faults::{LinkFault, fault_line, status};
 use omf_files::{BufferedSink, CreatedFile, Keep, World, open_source, open_sources};
 use omf_frame::{IoFault, Sink, Source, put_all};
-use omf_words::{Job, WordsFault, parse_words};
+use omf_words::{Job, parse_words};
 use std::alloc::{Allocator, Global};
 use std::io::Write;
 
@@ -438,6 +439,6 @@ fn finish<E: Sink, A: Allocator + Copy>(
         return 0;
     };
     // where standard error fails, the status alone tells it
-    let _ = fault_line(fault, file, errors);
+    let _ = fault_line("omf", fault, file, errors);
     status(fault)
 }

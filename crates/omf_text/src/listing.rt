@@ -1,10 +1,10 @@
 //! The listing of records. Nothing here takes memory.
-ghost use Rattle.std.specs.Prelude.{◌≡◌, ◌-◌, ◌^◌, ◌<◌, ◌≤◌, replicate};
+ghost use Rattle.std.specs.Prelude.{◌≡◌, ◌-◌, ◌^◌, ◌<◌};
 ghost use Rattle.omf_frame.specs.Device.{Writes};
 ghost use Rattle.omf_text.specs.Listing as spec;
 ghost use Rattle.omf_text.specs.Listing.{head_line};
 
-use crate::print::{Hexadecimal, put_pieces};
+use crate::print::{Hexadecimal, put_pieces, spaces};
 use itoa::Buffer;
 use omf_frame::{IoFault, Sink};
 
@@ -36,14 +36,6 @@ pub fn record_name(kind: u8) -> &'static str
         0xB6 => "LPUBDEF",
         _ => "",
     }
-}
-
-// So many spaces.
-fn spaces(count: usize) -> &'static [u8]
-    requires { count ≤ 7 }
-    ensures { result.now ≡ replicate count 32 }
-{
-    &b"       "[..count]
 }
 
 /// Writes the head line of a record: its place, its type, the type's name and the length of its body,

@@ -4,9 +4,11 @@ ghost use Rattle.std.specs.List.{flat_map, concat};
 ghost use Rattle.omf_frame.specs.Device.{Writes};
 ghost use Rattle.omf_text.specs.Details as spec;
 ghost use Rattle.omf_text.specs.Pieces.{printed};
+ghost use Rattle.omf_text.specs.Printing.{right};
 
 use crate::print::{
     Hexadecimal, put_count, put_hexadecimal, put_hexadecimal_bytes, put_name, put_pieces,
+    put_plain_name, spaces,
 };
 use itoa::Buffer;
 use omf_frame::{IoFault, Sink, put_all};
@@ -14,6 +16,9 @@ use omf_record::{
     Alignment, Combination, Datum, FrameMethod, Location, SegmentLength, TargetMethod,
     ThreadNumber, alignment_number, combination_number, location_number, thread_number,
 };
+
+/// The printed width of a number of bytes.
+const SIZE_WIDTH: usize = 7;
 
 /// What may stand in a listing many times.
 pub trait Printed<K: Sink> {
@@ -42,20 +47,28 @@ pub fn put_each<T: Printed<K>, K: Sink>(sink: &mut K, items: &[T]) -> Result<(),
 pub enum Piece<'a> {
     /// As it stands.
     Text(&'a str),
+    /// As they stand.
+    Bytes(&'a [u8]),
     /// In decimal.
     Index(u16),
     /// In decimal.
     Count(usize),
     /// Two hexadecimal digits.
     Byte(u8),
+    /// In decimal, in at least seven columns.
+    Size(usize),
     /// At least three hexadecimal digits.
     Place(u16),
+    /// A place in a file: at least eight hexadecimal digits.
+    FilePlace(u64),
     /// Four hexadecimal digits.
     Word(u16),
     /// An address or a length: at least six hexadecimal digits.
     Address(u32),
     /// Between two quotes.
     Name(&'a [u8]),
+    /// A name without quotes.
+    PlainName(&'a [u8]),
     /// 1 for true, 0 for false.
     Bit(bool),
     /// Two hexadecimal digits a byte, or a dash where there are none.
@@ -97,6 +110,17 @@ fn put_comment_bytes<K: Sink>(sink: &mut K, bytes: &[u8]) -> Result<(), IoFault>
         return put_all(sink, b"-");
     }
     put_hexadecimal_bytes(sink, bytes)
+}
+
+// Writes a number of bytes in its columns.
+fn put_size<K: Sink>(sink: &mut K, size: usize) -> Result<(), IoFault>
+    requires { K.failures sink.old < 2 ^ 64 - 1 }
+    ensures { Writes K.written K.failures sink.old sink.new (right 7 (decimal size)) result }
+{
+    let mut digits = Buffer::new();
+    let digits = digits.format(size).as_bytes();
+    let pieces = [spaces(SIZE_WIDTH.saturating_sub(digits.len())), digits];
+    put_pieces(sink, pieces.as_slice())
 }
 
 // Writes a length up to 65,536, or that it is more.
@@ -207,13 +231,17 @@ impl<'a, K: Sink> Printed<K> for Piece<'a> {
     fn put(&self, sink: &mut K) -> Result<(), IoFault> {
         match *self {
             Piece::Text(text) => put_all(sink, text.as_bytes()),
+            Piece::Bytes(bytes) => put_all(sink, bytes),
             Piece::Index(index) => put_count(sink, usize::from(index)),
             Piece::Count(count) => put_count(sink, count),
             Piece::Byte(byte) => put_hexadecimal(sink, u64::from(byte), 2),
+            Piece::Size(size) => put_size(sink, size),
             Piece::Place(place) => put_hexadecimal(sink, u64::from(place), 3),
+            Piece::FilePlace(place) => put_hexadecimal(sink, place, 8),
             Piece::Word(word) => put_hexadecimal(sink, u64::from(word), 4),
             Piece::Address(address) => put_hexadecimal(sink, u64::from(address), 6),
             Piece::Name(name) => put_name(sink, name),
+            Piece::PlainName(name) => put_plain_name(sink, name),
             Piece::Bit(bit) => put_count(sink, usize::from(bit)),
             Piece::CommentBytes(bytes) => put_comment_bytes(sink, bytes),
             Piece::Expanded(length) => put_expanded(sink, length),

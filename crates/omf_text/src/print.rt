@@ -1,5 +1,6 @@
 //! Printed text, written to a sink. Nothing here takes memory.
-ghost use Rattle.std.specs.Prelude.{◌≡◌, ℕ, ◌+◌, ◌-◌, ◌^◌, ◌<◌, ◌≤◌, [], ◌++◌, IsTrue, OnOk, false, decimal};
+ghost use Rattle.std.specs.Prelude.{◌≡◌, ℕ, ◌+◌, ◌-◌, ◌^◌, ◌<◌, ◌≤◌, [], ◌++◌, IsTrue, OnOk, false};
+ghost use Rattle.std.specs.Prelude.{decimal, replicate};
 ghost use Rattle.std.specs.List.{flat_map};
 ghost use Rattle.omf_frame.specs.Device.{Writes};
 ghost use Rattle.omf_text.specs.Printing as spec;
@@ -99,6 +100,14 @@ pub fn put_pieces<K: Sink>(sink: &mut K, pieces: &[&[u8]]) -> Result<(), IoFault
     line.put_held(sink)
 }
 
+// So many spaces.
+pub(crate) fn spaces(count: usize) -> &'static [u8]
+    requires { count ≤ 7 }
+    ensures { result.now ≡ replicate count 32 }
+{
+    &b"       "[..count]
+}
+
 // The digit of a value below 16.
 fn digit(value: u8) -> u8
     requires { value < 16 }
@@ -131,6 +140,17 @@ fn put_name_byte<K: Sink>(sink: &mut K, byte: u8) -> Result<(), IoFault>
     }
 }
 
+// Writes a name without quotes.
+pub(crate) fn put_plain_name<K: Sink>(sink: &mut K, name: &[u8]) -> Result<(), IoFault>
+    requires { K.failures sink.old < 2 ^ 64 - 1 }
+    ensures { Writes K.written K.failures sink.old sink.new (flat_map name_byte name.now) result }
+{
+    for byte in name {
+        put_name_byte(sink, *byte)?;
+    }
+    Ok(())
+}
+
 /// Writes a name between two quotes. The bytes 20H to 7EH other than the quote and the backslash stand
 /// as they are, any other byte as `\x` and two hexadecimal digits.
 pub fn put_name<K: Sink>(sink: &mut K, name: &[u8]) -> Result<(), IoFault>
@@ -138,9 +158,7 @@ pub fn put_name<K: Sink>(sink: &mut K, name: &[u8]) -> Result<(), IoFault>
     ensures { Writes K.written K.failures sink.old sink.new (printed_name name.now) result }
 {
     put_all(sink, b"\"")?;
-    for byte in name {
-        put_name_byte(sink, *byte)?;
-    }
+    put_plain_name(sink, name)?;
     put_all(sink, b"\"")
 }
 

@@ -17,12 +17,12 @@ use Rattle.hex.proofs.HexLemmas.{IsOk-decode_sized, decode_of-ok, decode_sized-o
 use Rattle.clap.specs.Words.{Row, Text, all_of, built, fault_of, first_of, is_simple, is_simple_and_free, subcommand_of}
 use Rattle.clap.proofs.OnLiterals.{clap_on_literals}
 use Rattle.command_line.specs.Values.{texts}
+use Rattle.command_line.specs.declared.words_fault.WordsFault.{WordsFault}
+use Rattle.command_line.specs.declared.words_fault.WordsFault.TheVariants.{Help, Wrong, Memory}
 use Rattle.command_line.proofs.Parses.{simple_from_free}
 use Rattle.command_line.proofs.Required.{enters_one, is_entered, required_given, wants_values}
 use Rattle.command_line.proofs.Taken.{is_settled_app, takes_where_no_fault}
 use Rattle.omf_words.specs.declared.words.Job.{Job}
-use Rattle.omf_words.specs.declared.words.WordsFault.{WordsFault}
-use Rattle.omf_words.specs.declared.words.WordsFault.TheVariants.{Help, Wrong, Memory}
 use Rattle.omf_words.specs.Words.{HasTooManyFiles, HasWrongParagraph, IsFourDigits, IsJobFor, IsJobOf}
 use Rattle.omf_words.specs.Words.{IsRefusalFor, omf_command}
 use Rattle.omf_words.specs.inside.Words.{IsEntered, IsRefusalOf, IsWrong}

@@ -7,8 +7,8 @@ use Rattle.clap.specs.Words.{App, Row, Rule, Text, all_of, first_of, new_app, ne
 use Rattle.clap.specs.Words.{with_rule, with_subcommand}
 use Rattle.command_line.specs.Rules.{case_rule, files_rule, map_rule}
 pub use Rattle.command_line.specs.Values.{IsFlag, texts}
-use Rattle.omf_words.specs.declared.words.WordsFault.{WordsFault}
-use Rattle.omf_words.specs.declared.words.WordsFault.TheVariants.{Help, Wrong, Memory}
+use Rattle.command_line.specs.declared.words_fault.WordsFault.{WordsFault}
+use Rattle.command_line.specs.declared.words_fault.WordsFault.TheVariants.{Help, Wrong, Memory}
 use Rattle.omf_words.specs.declared.words.Job.{Job}
 use Rattle.omf_words.specs.declared.words.Job.TheVariants.{Show, Check, Rewrite, Link, Load}
 

@@ -1,21 +1,17 @@
 //! The words of the command line.
 ghost use Rattle.std.specs.Prelude.{◌≡◌, ◌⊎◌, IfErr, IfOk, IsSome, Some, codes, false, true};
-ghost use Rattle.clap.specs.Words.{App, app_of, first_of, found_of, is_simple, kind_of, rows_of, rule_of, takes};
+ghost use Rattle.clap.specs.Words.{App, app_of, first_of, found_of, is_simple, rows_of, rule_of, takes};
 ghost use Rattle.clap.specs.Words.{with_subcommand};
 ghost use Rattle.clap.specs.declared.Command.{out-Command as fields_of};
-ghost use Rattle.clap.specs.declared.error.ErrorKind.TheVariants.{OutOfMemory};
-ghost use Rattle.omf_words.specs.declared.words.WordsFault.TheVariants.{Memory};
 ghost use Rattle.omf_words.specs.Words as spec;
 ghost use Rattle.omf_words.specs.inside.Words as inside;
 ghost use Rattle.omf_words.specs.Words.{IsJobFor, IsJobOf, IsRefusalFor, texts};
 ghost use Rattle.omf_words.specs.inside.Words.{IsEntered, IsRefusalOf};
 
-use clap::error::ErrorKind;
 use clap::{Arg, ArgMatches, Command};
-use command_line::{VERSION, case_flag, files, map_option, with_arg};
+use command_line::{VERSION, WordsFault, case_flag, files, map_option, refusal, with_arg};
 use hex::FromHex;
 use std::alloc::{AllocError, Global};
-use thiserror::Error;
 
 /// A link has no more files than this.
 const MAX_FILES: usize = 65_535;
@@ -66,28 +62,6 @@ pub enum Job<'a> {
         /// The paragraph that the program is loaded at.
         paragraph: u16,
     },
-}
-
-/// Why the words are no job.
-#[derive(Debug, Drop, Error)]
-pub enum WordsFault {
-    /// They ask for help, which is this text.
-    #[error("{0}")]
-    Help(String),
-    /// They are wrong, and this text says why.
-    #[error("{0}")]
-    Wrong(String),
-    /// There was no memory.
-    #[error("out of memory")]
-    Memory,
-}
-
-impl From<AllocError> for WordsFault {
-    ghost from_gives = { λ _ e. e ≡ Memory };
-
-    fn from(_error: AllocError) -> WordsFault {
-        WordsFault::Memory
-    }
 }
 
 // A value that has to be there.
@@ -211,20 +185,6 @@ fn omf_command<'a>(alloc: Global) -> Result<Command<'a>, AllocError>
     let command = with_command(command, rewrite_command(alloc));
     let command = with_command(command, link_command(alloc));
     with_command(command, load_command(alloc))
-}
-
-// What the parser says of the words.
-fn refusal(alloc: Global, error: &clap::Error) -> WordsFault
-    ensures { kind_of error.now ≡ OutOfMemory → result ≡ WordsFault.Memory }
-{
-    if error.kind() == ErrorKind::OutOfMemory {
-        return WordsFault::Memory;
-    }
-    match error.to_string(alloc) {
-        Err(_) => WordsFault::Memory,
-        Ok(text) if error.use_stderr() => WordsFault::Wrong(text),
-        Ok(text) => WordsFault::Help(text),
-    }
 }
 
 // A refusal for which the parser has no text.

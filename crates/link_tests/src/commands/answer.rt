@@ -170,7 +170,7 @@ fn fault_text<A: Allocator + Copy>(alloc: Global, fault: &LinkFault<A>) -> Resul
     };
     let mut room = [0u8; 80];
     let mut sink = MemSink::over(&mut room, 80);
-    fault_line(fault, name, &mut sink)?;
+    fault_line("omf", fault, name, &mut sink)?;
     let line = str::from_utf8(sink.written())?;
     Ok(format!(in alloc; "{} {line}", status(fault))?)
 }

@@ -18,7 +18,7 @@ fn is_told<R: Abort>(
     for len in 0..line.len() + 1 {
         let mut room = [0u8; 80];
         let mut sink = MemSink::over(&mut room[..len.min(80)], 3);
-        let whole = fault_line(&fault, file, &mut sink).is_ok();
+        let whole = fault_line("omf", &fault, file, &mut sink).is_ok();
         let told = (whole, sink.written(), (status(&fault), fault.input()));
         let front = &line.as_bytes()[..len];
         assert_eq!(rt; told, (len == line.len(), front, numbers));

@@ -4,8 +4,8 @@ use Rattle.std.specs.Prelude.{codes, is_some}
 use Rattle.std.specs.List.{list_all, list_any}
 use Rattle.std.specs.Str.{bytes_eq}
 use Rattle.clap.specs.Words.{Row, Text, first_of}
-use Rattle.omf_words.specs.declared.words.WordsFault.{WordsFault}
-use Rattle.omf_words.specs.declared.words.WordsFault.TheVariants.{Help, Wrong, Memory}
+use Rattle.command_line.specs.declared.words_fault.WordsFault.{WordsFault}
+use Rattle.command_line.specs.declared.words_fault.WordsFault.TheVariants.{Help, Wrong, Memory}
 use Rattle.omf_words.specs.Words.{HasTooManyFiles, HasWrongParagraph, file_command, link_command, load_command}
 use Rattle.omf_words.specs.Words.{rewrite_command}
 

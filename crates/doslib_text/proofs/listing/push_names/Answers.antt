@@ -7,7 +7,7 @@ pub loop-name-preserved : goal.loop-name-preserved
 loop-name-preserved g c =
     let here : c.loop-name.name-index < length c.args.names.now = search rules in
     all-more (λ n. name_line c.args.word.now n.now) c.args.names.now c.loop-name.name-index _
-    c.loop-name.lines.items _ _ here (rw c.as_slice.ensures at c.in_ok-push_parts.ensures) c.loop-name.invariant
+    c.loop-name.lines.items _ _ here (rw c.as_slice.ensures at c.in_ok-push_pieces.ensures) c.loop-name.invariant
 
 pub returns : goal.returns
 returns g c =

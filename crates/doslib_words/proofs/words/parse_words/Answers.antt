@@ -11,7 +11,7 @@ returns-in_default-clause-refused c = λ taken. refl
 
 pub returns-in-Err-clause-refused : goal.returns-in-Err-clause-refused
 returns-in-Err-clause-refused c = λ taken.
-    c.refusal.ensures
+    c.refusal.ensures.memory
     (c.in-Err.ensures.passes (ap (λ a. takes a (texts c.args.words.now)) c.in-Ok.ensures ∙ taken))
 
 pub unwrap-requires : goal.unwrap-requires

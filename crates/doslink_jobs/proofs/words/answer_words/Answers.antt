@@ -1,5 +1,5 @@
 use Rattle.std.proofs.Common.{◌≢◌}
-use Rattle.doslink_words.specs.declared.words.WordsFault.TheVariants.{Memory}
+use Rattle.command_line.specs.declared.words_fault.WordsFault.TheVariants.{Memory}
 use Rattle.doslink_jobs.proofs.Doing.{EndsWith-weaker}
 use Rattle.doslink_jobs.proofs.words.answer_words.Goals as goal
 

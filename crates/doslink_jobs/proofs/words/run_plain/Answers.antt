@@ -1,8 +1,8 @@
 use Rattle.std.proofs.Common.{◌≢◌, inl, inr}
 use Rattle.std.specs.declared.alloc.Global.{Global}
+use Rattle.command_line.specs.declared.words_fault.WordsFault.TheVariants.{Memory}
 use Rattle.doslink_words.specs.Tokens.{texts}
 use Rattle.doslink_files.specs.Written.{StandsAt}
-use Rattle.doslink_words.specs.declared.words.WordsFault.TheVariants.{Memory}
 use Rattle.doslink_jobs.specs.Runs.{RunsWords}
 use Rattle.doslink_jobs.proofs.Doing.{EndsBy-done, EndsBy-none}
 use Rattle.doslink_jobs.proofs.words.run_plain.Goals as goal

@@ -1,21 +1,21 @@
-use Rattle.std.proofs.Common.{◌≡◌, ◌++◌, OnOk, append-nil, codes, subst, sym, ◌∙◌}
+use Rattle.std.proofs.Common.{◌≡◌, [], ◌∷◌, ◌++◌, OnOk, append-nil, codes, subst, sym, ◌∙◌}
+use Rattle.std.proofs.lemmas.List.Folds.{concat-append}
+use Rattle.std.specs.List.{concat}
+use Rattle.doslink_stock.specs.Seen.{entry_held}
 use Rattle.omf_text.specs.Printing.{printed_name}
+use Rattle.doslink_telling.specs.Words.{module_word}
 use Rattle.doslink_telling.proofs.Texts.{extended-ok, then-ok}
 use Rattle.doslink_telling.proofs.missing.push_offering.Goals as goal
 
 pub returns : goal.returns
 returns g c =
-    let r = c.extend_from_slice-3.result in
+    let r = c.extend_from_slice.result in
     let s0 = c.args.lines.now.items in
-    let s1 = c.extend_from_slice.new.self.items in
-    let s2 = c.push_name.new.lines.items in
-    let s3 = c.extend_from_slice-2.new.self.items in
-    let s4 = c.extend_from_slice-3.new.self.items in
-    let word = c.deref.result.now in
-    let name = printed_name c.args.name.now in
-    subst (λ w. OnOk r (s4 ≡ s0 ++ (codes "; " ++ (name ++ (codes " is in " ++ w)))))
-    (c.deref.ensures.value ∙ c.in_ok-word.ensures ∙ sym (append-nil _))
-    (then-ok r s0 s1 s4 (codes "; ") (name ++ (codes " is in " ++ word)) c.in_ok-extend_from_slice.ensures.items
-    (then-ok r s1 s2 s4 name (codes " is in " ++ word) c.in_ok-push_name.ensures
-    (then-ok r s2 s3 s4 (codes " is in ") word c.in_ok-extend_from_slice-2.ensures.items
-    (extended-ok r s3 s4 word c.extend_from_slice-3.ensures.items))))
+    let s1 = c.push_pieces.new.lines.items in
+    let s2 = c.extend_from_slice.new.self.items in
+    let word = module_word c.args.paths.now (entry_held c.args.entry.now) in
+    let front = codes "; " ∷ printed_name c.args.name.now ∷ codes " is in " ∷ [] in
+    subst (λ l. OnOk r (s2 ≡ s0 ++ l)) (sym (concat-append front (word ∷ [])))
+    (then-ok r s0 s1 s2 (concat front) (word ++ []) (rw c.as_slice.ensures at c.in_ok-push_pieces.ensures)
+    (subst (λ l. OnOk r (s2 ≡ s1 ++ l)) (c.deref.ensures.value ∙ c.in_ok-word.ensures ∙ sym (append-nil word))
+    (extended-ok r s1 s2 c.deref.result.now c.extend_from_slice.ensures.items)))

@@ -20,7 +20,7 @@ returns-in-Ok-clause-refused c = λ taken.
 
 pub returns-in-Err-clause-refused : goal.returns-in-Err-clause-refused
 returns-in-Err-clause-refused c = λ taken.
-    c.refusal.ensures
+    c.refusal.ensures.memory
     (taken_fails (app_of c.in_ok-command.command) (texts c.args.words.now) (texts c.asked-words.result.now)
     c.try_get_matches_from.result c.in-Err.error c.asked-words.ensures c.in_ok-command.ensures.app
     c.try_get_matches_from.ensures.kinds c.in-Err.is taken)

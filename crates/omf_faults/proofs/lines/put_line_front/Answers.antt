@@ -10,6 +10,6 @@ returns g c =
     let number_is : c.format-number.result.now ≡ decimal c.args.number = search rules in
     let place_is : c.format-place.result.now ≡ decimal c.args.place = search rules in
     let texts : map (λ piece. piece.now) c.as_slice-5.result.now
-    ≡ codes "omf: " ∷ c.args.file.now ∷ codes ": " ∷ decimal c.args.number ∷ codes " " ∷ c.args.name.now
-    ∷ codes " at record " ∷ decimal c.args.place ∷ [] = search rules in
+    ≡ c.args.program.now ∷ codes ": " ∷ c.args.file.now ∷ codes ": " ∷ decimal c.args.number ∷ codes " "
+    ∷ c.args.name.now ∷ codes " at record " ∷ decimal c.args.place ∷ [] = search rules in
     Wrote-same _ _ _ _ _ _ _ (pieces_joined _ _ texts) c.put_pieces.ensures

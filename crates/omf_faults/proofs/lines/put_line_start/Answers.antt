@@ -9,6 +9,6 @@ unfolding line_start
 returns g c =
     let number_is : c.format-number.result.now ≡ decimal c.args.number = search rules in
     let texts : map (λ piece. piece.now) c.as_slice-4.result.now
-    ≡ codes "omf: " ∷ c.args.word.now ∷ codes ": " ∷ decimal c.args.number ∷ codes " " ∷ c.args.name.now ∷ [] =
-    search rules in
+    ≡ c.args.program.now ∷ codes ": " ∷ c.args.word.now ∷ codes ": " ∷ decimal c.args.number ∷ codes " "
+    ∷ c.args.name.now ∷ [] = search rules in
     Wrote-same _ _ _ _ _ _ _ (pieces_joined _ _ texts) c.put_pieces.ensures

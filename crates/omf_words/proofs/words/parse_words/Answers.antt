@@ -12,7 +12,7 @@ returns-in_default-clause-refused c = λ taken. memory_refuses (texts c.args.wor
 
 pub returns-in-Err-clause-refused : goal.returns-in-Err-clause-refused
 returns-in-Err-clause-refused c = λ taken.
-    rw (c.refusal.ensures
+    rw (c.refusal.ensures.memory
     (c.in-Err.ensures.passes (ap (λ a. takes a (texts c.args.words.now)) c.in-Ok.ensures ∙ taken)))
     (memory_refuses (texts c.args.words.now))
 

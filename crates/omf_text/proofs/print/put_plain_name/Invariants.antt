@@ -2,7 +2,7 @@ use Rattle.std.proofs.Common.{◌≡◌, take}
 use Rattle.std.specs.List.{flat_map}
 use Rattle.std.specs.Io.KnownBytes.{Appends}
 use Rattle.omf_text.specs.Printing.{name_byte}
-use Rattle.omf_text.proofs.print.put_name.Given as goal
+use Rattle.omf_text.proofs.print.put_plain_name.Given as goal
 
 abbrev pub invariant-loop-byte : goal.invariant-loop-byte
 invariant-loop-byte g l = record {
