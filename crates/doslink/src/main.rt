@@ -5,13 +5,10 @@ ghost use Rattle.std.specs.Prelude.{◌≡◌, ◌-◌, ◌^◌, ◌<◌};
 ghost use Rattle.omf_files.specs.Files.{sink_failures};
 
 use dos_names::{Names, Seen};
-use doslink_jobs::{
-    Environment, Language, language_asked, language_of, library_folders, out_of_memory, run_words,
-    wrong_words,
-};
+use doslink_asked::{Language, Request, language_asked, language_of, library_folders};
+use doslink_jobs::{out_of_memory, run_words, wrong_words};
 use omf_files::BufferedSink;
 use omf_frame::{Sink, WriteSink};
-use std::alloc::AllocError;
 use std::env::{self, VarError};
 use std::io::{ErrorKind, Write};
 use std::process::ExitCode;
@@ -72,14 +69,6 @@ fn library_list(rt: &HostRuntime, language: Language) -> Result<String, VarError
     }
 }
 
-// The folders of the environment's LIB: none where it is empty.
-fn folders_in<'l>(rt: &HostRuntime, list: &'l str) -> Result<Vec<&'l str>, AllocError> {
-    match list {
-        "" => Ok(Vec::new(rt.alloc())),
-        list => library_folders(rt.alloc(), list),
-    }
-}
-
 // Does what the program's name and the words after it ask for, and hands out the exit status.
 fn run_arguments<O: Write + Drop, E: Sink>(
     rt: &HostRuntime,
@@ -104,24 +93,16 @@ fn run_arguments<O: Write + Drop, E: Sink>(
         Ok(list) => list,
         Err(_) => return out_of_memory(errors),
     };
-    match folders_in(rt, list.as_str()) {
-        Ok(folders) => {
-            let environment = Environment {
-                folders: &folders,
-                link: link.as_str(),
-            };
-            let seen = Seen::nothing();
-            let world = files_of(rt, &seen, asked);
-            run_words(
-                rt.alloc(),
-                world,
-                language,
-                words,
-                &environment,
-                output,
-                errors,
-            )
-        }
-        Err(_) => out_of_memory(errors),
-    }
+    let Ok(folders) = library_folders(rt.alloc(), list.as_str()) else {
+        return out_of_memory(errors);
+    };
+    let request = Request {
+        language,
+        words,
+        link: link.as_str(),
+        folders: &folders,
+    };
+    let seen = Seen::nothing();
+    let world = files_of(rt, &seen, asked);
+    run_words(rt.alloc(), world, &request, output, errors)
 }

@@ -1,7 +1,7 @@
 -- What was done, step by step.
 use Rattle.std.proofs.Common.{◌≡◌, ℕ, List, [], ◌∷◌, length, arith, map, Result, Ok, Err}
 use Rattle.std.proofs.Common.{◌==◌, ◌≢◌, true≢false, false, MatchResult, Bool, refl, sym, subst, ap, ◌∙◌}
-use Rattle.std.proofs.Common.{Any, inl, inr}
+use Rattle.std.proofs.Common.{Any, MatchOption, None, Some, inl, inr}
 use Rattle.std.specs.declared.option.Option.{Option}
 use Rattle.omf_communal.specs.Deciding.{Variable}
 use Rattle.omf_module.specs.Module as omf
@@ -17,7 +17,7 @@ use Rattle.doslink_jobs.specs.Jobs.{AreInputsOf, EndsWith, IsDone, IsLinkOf, nam
 use Rattle.doslink_jobs.specs.Meant.{AreMeant}
 use Rattle.doslink_jobs.specs.Places.{map_path, out_path}
 use Rattle.doslink_jobs.specs.Refusals.{AreMissingOf, IsFaulty, IsRefusedJob, IsRefusedOf}
-use Rattle.doslink_jobs.specs.Runs.{AskForNone, EndsBy}
+use Rattle.doslink_jobs.specs.Runs.{EndsBy}
 use Rattle.doslink_jobs.specs.Wrong.{AreApart, EndsJob, IsNamedWell, IsWrongJob}
 use Rattle.omf_files.specs.declared.world.Looked.{Looked}
 use Rattle.doslink_jobs.specs.inside.Inputs.{IsLinkedWith, IsRefusedWith}
@@ -129,43 +129,29 @@ EndsWith-weaker P Q R S V W tells status does refuses wrongs (told, inr (inr (in
 EndsWith-weaker P Q R S V W tells status does refuses wrongs (told, inr (inr (inr three))) =
     (told, inr (inr (inr three)))
 
--- what holds of one run holds of another one
-pub EndsBy-weaker : (A : Type 0) (told : Text → Option (List ℕ)) (Writes : (path bytes : List ℕ) → Type 0)
-    (folders : List Text)
-    (Run Other : (Job → Type 0) → (List Text → Type 0) → Type 0) (tells : List ℕ → Type 0) (status : ℕ)
-    → ((does : Job → Type 0) (helps : List Text → Type 0) → Run does helps → Other does helps)
-    → EndsBy A told Writes folders Run tells status → EndsBy A told Writes folders Other tells status
-EndsBy-weaker A told Writes folders Run Other tells status step =
-    let done = IsDone A told Writes folders in
-    let refused = IsRefusedJob A told folders in
-    let never = λ (words : List Text). ⊥ in
-    EndsWith-weaker (Run done AskForNone) (Other done AskForNone) (Run refused never) (Other refused never) (Unit {0})
-    (Unit {0}) tells status (step done AskForNone) (step refused never) (λ wrong. wrong)
-
--- the same of a job
+-- a run that does the job that is asked for
 pub EndsBy-done : (A : Type 0) (told : Text → Option (List ℕ)) (looks : Option (Text → Option Looked))
-    (Writes : (path bytes : List ℕ) → Type 0) (folders : List Text)
-    (Run : (Job → Type 0) → (List Text → Type 0) → Type 0) (job : Job) (tells : List ℕ → Type 0) (status : ℕ)
-    → ((does : Job → Type 0) (helps : List Text → Type 0) → does job → Run does helps)
-    → EndsJob A told looks Writes folders job tells status → EndsBy A told Writes folders Run tells status
-EndsBy-done A told looks Writes folders Run job tells status step =
+    (Writes : (path bytes : List ℕ) → Type 0) (folders : List Text) (Asks : Option Job → Type 0) (job : Job)
+    (tells : List ℕ → Type 0) (status : ℕ) → Asks (Some job) → EndsJob A told looks Writes folders job tells status
+    → EndsBy A told Writes folders Asks tells status
+EndsBy-done A told looks Writes folders Asks job tells status asks =
     let done = IsDone A told Writes folders in
     let refused = IsRefusedJob A told folders in
-    let never = λ (words : List Text). ⊥ in
-    EndsWith-weaker (IsNamedWell folders job × AreApart looks job.verbose (out_path job) (map_path job)
-    × done job) (Run done AskForNone)
-    (IsNamedWell folders job × refused job) (Run refused never) (IsWrongJob told looks folders job) (Unit {0}) tells status
-    (λ ends. step done AskForNone ends.2) (λ ends. step refused never ends.1) (λ wrong. tt)
+    EndsWith-weaker (IsNamedWell folders job × AreApart looks job.verbose (out_path job) (map_path job) × done job)
+    ((j : Option Job) × Asks j × MatchOption j (Unit {0}) done) (IsNamedWell folders job × refused job)
+    ((j : Job) × Asks (Some j) × refused j) (IsWrongJob told looks folders job) (Unit {0}) tells status
+    (λ ends. (Some job, asks, ends.2)) (λ ends. (job, asks, ends.1)) (λ wrong. tt)
 
--- a run that does no job
+-- a run that prints a text that is asked for
 pub EndsBy-none : (A : Type 0) (told : Text → Option (List ℕ)) (Writes : (path bytes : List ℕ) → Type 0)
-    (folders : List Text)
-    (Run : (Job → Type 0) → (List Text → Type 0) → Type 0) (P W : Type 0) (tells : List ℕ → Type 0) (status : ℕ)
-    → (P → Run (IsDone A told Writes folders) AskForNone) → EndsWith P ⊥ W tells status
-    → EndsBy A told Writes folders Run tells status
-EndsBy-none A told Writes folders Run P W tells status helps =
-    EndsWith-weaker P (Run (IsDone A told Writes folders) AskForNone) ⊥ (Run (IsRefusedJob A told folders) (λ words. ⊥))
-    W (Unit {0}) tells status helps (λ none. absurd none) (λ wrong. tt)
+    (folders : List Text) (Asks : Option Job → Type 0) (tells : List ℕ → Type 0) (status : ℕ) → Asks None
+    → EndsWith (Unit {0}) ⊥ ⊥ tells status → EndsBy A told Writes folders Asks tells status
+EndsBy-none A told Writes folders Asks tells status asks =
+    let done = IsDone A told Writes folders in
+    let refused = IsRefusedJob A told folders in
+    EndsWith-weaker (Unit {0}) ((j : Option Job) × Asks j × MatchOption j (Unit {0}) done) ⊥
+    ((j : Job) × Asks (Some j) × refused j) ⊥ (Unit {0}) tells status
+    (λ done. (None, asks, tt)) (λ none. absurd none) (λ none. absurd none)
 
 -- a run ends by why it stopped
 pub ends : (Done Refused Wrong : Type 0) (tells : List ℕ → Type 0) (done : Result (Unit {0}) Halt) (status : ℕ)
@@ -180,16 +166,15 @@ ends Done Refused Wrong tells (Err (halt.Stop Memory)) status text is did told =
 
 -- a run that stops before it does a job, for no input
 pub EndsBy-stopped : (A : Type 0) (told : Text → Option (List ℕ)) (Writes : (path bytes : List ℕ) → Type 0)
-    (folders : List Text)
-    (Run : (Job → Type 0) → (List Text → Type 0) → Type 0) (tells : List ℕ → Type 0) (why : Halt) (status : ℕ)
+    (folders : List Text) (Asks : Option Job → Type 0) (tells : List ℕ → Type 0) (why : Halt) (status : ℕ)
     (text : List ℕ) → status ≡ halt_status why → OnHalt why ⊥ (Unit {0}) → tells text
-    → EndsBy A told Writes folders Run tells status
-EndsBy-stopped A told Writes folders Run tells halt.Words status text is none tell =
+    → EndsBy A told Writes folders Asks tells status
+EndsBy-stopped A told Writes folders Asks tells halt.Words status text is none tell =
     ((text, tell), inr (inr (inl (is, tt))))
-EndsBy-stopped A told Writes folders Run tells (halt.Stop Input) status text is none tell = absurd none
-EndsBy-stopped A told Writes folders Run tells (halt.Stop Device) status text is none tell =
+EndsBy-stopped A told Writes folders Asks tells (halt.Stop Input) status text is none tell = absurd none
+EndsBy-stopped A told Writes folders Asks tells (halt.Stop Device) status text is none tell =
     ((text, tell), inr (inr (inr is)))
-EndsBy-stopped A told Writes folders Run tells (halt.Stop Memory) status text is none tell =
+EndsBy-stopped A told Writes folders Asks tells (halt.Stop Memory) status text is none tell =
     ((text, tell), inr (inr (inr is)))
 
 -- nothing is missing where no name is told

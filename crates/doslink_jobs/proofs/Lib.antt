@@ -6,7 +6,6 @@ pub mod Declaring
 mod Held
 pub mod Doing
 pub mod FaultyModules
-pub mod LineTexts
 pub mod Linked
 pub mod Lists
 pub mod Joined
@@ -20,11 +19,7 @@ pub mod Overflowing
 pub mod Passing
 pub mod Placing
 pub mod Refused
-pub mod Speaking
-pub mod Asking
-mod Splitting
 mod Warning
 pub mod Stacked
 pub mod Starting
 pub mod Stems
-pub mod Texts

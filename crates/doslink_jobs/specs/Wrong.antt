@@ -10,9 +10,9 @@ use Rattle.omf_files.specs.declared.world.FileId.{FileId}
 use Rattle.omf_files.specs.declared.world.Looked.{Looked}
 use Rattle.doslink_files.specs.Standing.{BeginsAsInput, is_one_of, is_one_place, stands_regular}
 use Rattle.doslink_words.specs.declared.job.Job.{Job}
-use Rattle.doslink_words.specs.Keywords.{is_keyword}
+use Rattle.doslink_asked.specs.Paths.{extension_of, is_other_form, is_output}
 use Rattle.doslink_jobs.specs.Jobs.{EndsWith, IsDone}
-use Rattle.doslink_jobs.specs.Places.{extension_of, is_map_output, is_output, looked_path, map_path, out_path}
+use Rattle.doslink_jobs.specs.Places.{is_map_output, looked_path, map_path, out_path}
 use Rattle.doslink_jobs.specs.Refusals.{IsRefusedJob}
 
 -- ---- what a job names
@@ -33,12 +33,6 @@ searches_too_many folders job =
     are_too_many job.folders.items || are_too_many job.object_folders.items || are_too_many folders
 
 -- ---- where it writes
-
--- the extension of a file of another form than .EXE
-abbrev pub is_other_form : Text → Bool
-is_other_form extension =
-    is_keyword extension (codes "com") || is_keyword extension (codes "sys") || is_keyword extension (codes "bin")
-    || is_keyword extension (codes "img")
 
 -- the program is given a name with the extension of another form, and no form is said
 abbrev pub asks_other_form : Job → Bool

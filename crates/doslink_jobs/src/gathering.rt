@@ -22,14 +22,14 @@ ghost use Rattle.doslink_jobs.specs.inside.Gathering.{AreStemsOf, IsFaultyJob, I
 ghost use Rattle.doslink_jobs.specs.inside.Stops.{OnInput};
 
 use crate::inputs::options_of;
-use crate::limit::{push_rest, told_count};
 use crate::names::push_names_file;
 use crate::stop::{Stop, stop_after, stop_at_files, stop_unread};
-use crate::words::{Besides, is_named};
+use crate::words::Besides;
 use bumpalo::Bump;
+use doslink_asked::is_named;
 use doslink_files::{Folders, Found, InputFile, ReadFault, Sought, find_default, read_sought};
 use doslink_stock::{Handed, Stock, StockFault};
-use doslink_telling::{module_word, push_absent_line, push_stock_fault};
+use doslink_telling::{module_word, push_absent_line, push_rest, push_stock_fault, told_count};
 use doslink_words::{Input, Job};
 use omf_files::{FileId, World};
 use std::alloc::{AllocError, Allocator};

@@ -11,6 +11,7 @@ ghost use Rattle.doslink_jobs.specs.Refusals.{HasNoPlan};
 ghost use Rattle.doslink_jobs.specs.inside.Stops.{OnInput};
 
 use crate::stop::{Stop, stop_after};
+use crate::warnings::word_of;
 use doslink_telling::{push_data_in_bss, push_order_line};
 use doslink_words::{Order, OrderItem};
 use omf_module::Module;
@@ -108,7 +109,7 @@ fn stop_at_order<A: Allocator + Copy>(
         OrderFault::Memory => Stop::Memory,
         OrderFault::TooManySegments => stop_after(push_order_line(lines)),
         OrderFault::DataInBss { module, segment } => {
-            let word = words.get(module).copied().unwrap_or(b"");
+            let word = word_of(words, module);
             stop_after(push_data_in_bss(lines, segment, word))
         }
     }

@@ -1,17 +1,19 @@
 //! Where the program and its map are written.
 ghost use Rattle.std.specs.Prelude.{◌≡◌, IfErr, IfOk, MatchResult, false, is_some, string_bytes, true};
 ghost use Rattle.std.specs.Option.{option_map, option_map_or, option_or};
+ghost use Rattle.doslink_asked.specs.Paths as paths;
 ghost use Rattle.doslink_jobs.specs.Places as spec;
 ghost use Rattle.doslink_files.specs.Standing.{has_file};
 ghost use Rattle.doslink_jobs.specs.Wrong as wrong;
 ghost use Rattle.doslink_jobs.specs.inside.Stops.{IsWords, OnHalt};
 
-use crate::paths::{extension_of, with_extension};
 use crate::stop::{Halt, Stop};
-use crate::words::is_named;
+use doslink_asked::{
+    extension_for, extension_of, first_file, is_output, other_form, path_after, with_extension,
+};
 use doslink_files::{is_one_of, is_one_place, stands_as_input};
 use doslink_telling::push_path_line;
-use doslink_words::{Form, Input, Job, MapFile};
+use doslink_words::{Input, Job, MapFile};
 use omf_files::{FileId, World};
 use std::alloc::{AllocError, Allocator};
 use std::collections::BTreeSet;
@@ -23,17 +25,6 @@ pub(crate) struct Places<A: Allocator + Copy> {
     pub out: String<A>,
     /// That of the map, where one is asked for.
     pub map: Option<String<A>>,
-}
-
-/// The path of the first file.
-pub(crate) fn first_file<'a>(inputs: &[Input<'a>]) -> Option<&'a str>
-    ensures { option_map (λ path. path.now) result ≡ spec.first_file inputs.now }
-{
-    match inputs {
-        [] => None,
-        [Input::File(path), ..] => Some(path),
-        [Input::Library(_), rest @ ..] => first_file(rest),
-    }
 }
 
 /// The name of the first library.
@@ -50,38 +41,11 @@ fn first_library<'a>(inputs: &[Input<'a>]) -> Option<&'a str>
 /// The name after which the program is called: that of the first file, or else of the first library.
 fn first_name<'a>(inputs: &[Input<'a>]) -> Option<&'a str>
     ensures { option_map (λ name. name.now) result
-        ≡ option_or (spec.first_file inputs.now) (spec.first_library inputs.now) }
+        ≡ option_or (paths.first_file inputs.now) (spec.first_library inputs.now) }
 {
     match first_file(inputs) {
         Some(path) => Some(path),
         None => first_library(inputs),
-    }
-}
-
-/// The path of a program that is called after this file or library.
-pub(crate) fn path_after<A: Allocator + Copy>(
-    alloc: A,
-    name: Option<&str>,
-    extension: &str,
-) -> Result<String<A>, AllocError>
-    ensures { IfOk result (λ path. string_bytes path
-        ≡ spec.path_after (option_map (λ n. n.now) name.entry) extension.now) }
-{
-    match name {
-        Some(name) if name != "-" => with_extension(alloc, name, extension),
-        _ => with_extension(alloc, "OUT", extension),
-    }
-}
-
-/// The extension of a file of a form.
-pub(crate) fn extension_for(form: Option<Form>) -> &'static str
-    ensures { result.now ≡ spec.extension_for form }
-{
-    match form {
-        None | Some(Form::Exe | Form::LimitedExe { .. }) => ".EXE",
-        Some(Form::Com | Form::FromStart) => ".COM",
-        Some(Form::Raw { .. }) => ".BIN",
-        Some(Form::Driver) => ".SYS",
     }
 }
 
@@ -128,29 +92,6 @@ fn stop_at_path<A: Allocator + Copy>(path: &str, why: &str, lines: &mut Vec<u8, 
     }
 }
 
-/// What is told of a program whose name has this extension, where no form is said; none where it isn't that of another
-/// form than .EXE.
-fn other_form(extension: &[u8]) -> Option<&'static str>
-    ensures { is_some result ≡ wrong.is_other_form extension.now }
-{
-    if is_named(extension, b"com") {
-        Some("without a form an EXE file is written: say --form com, or --form exe")
-    } else if is_named(extension, b"sys") {
-        Some("without a form an EXE file is written: say --form sys, or --form exe")
-    } else if is_named(extension, b"bin") || is_named(extension, b"img") {
-        Some("without a form an EXE file is written: say --form bin, or --form exe")
-    } else {
-        None
-    }
-}
-
-/// Whether an EXE file of this name would be taken for one of another form.
-pub(crate) fn is_of_other_form(out: &str) -> bool
-    ensures { result ≡ wrong.is_other_form (spec.extension_of out.now) }
-{
-    other_form(extension_of(out).as_bytes()).is_some()
-}
-
 /// Stops where the program is given a name with the extension of another form than .EXE, and no form is said.
 pub(crate) fn check_form<A: Allocator + Copy>(
     job: &Job<'_>,
@@ -171,16 +112,9 @@ pub(crate) fn check_form<A: Allocator + Copy>(
     Ok(())
 }
 
-/// Whether a path is no file, but standard output.
-pub(crate) fn is_output(path: &str) -> bool
-    ensures { result ≡ spec.is_output path.now }
-{
-    path == "-"
-}
-
 /// Whether the program is to be written to standard output.
 fn out_is_output(out: Option<&str>) -> bool
-    ensures { result ≡ option_map_or (λ path. spec.is_output path.now) out.entry false }
+    ensures { result ≡ option_map_or (λ path. paths.is_output path.now) out.entry false }
 {
     match out {
         Some(path) => is_output(path),

@@ -2,9 +2,8 @@
 ghost use Rattle.std.specs.Prelude.{◌≡◌};
 ghost use Rattle.doslink_jobs.specs.inside.Stops.{OnInput, halt_status, halt_text, stop_status, stop_text};
 
-use crate::limit::Limit;
 use doslink_files::{FilesFault, ReadFault, Unread};
-use doslink_telling::push_unread_line;
+use doslink_telling::{Limit, push_unread_line};
 use std::alloc::{AllocError, AllocFailed, Allocator};
 
 /// Why the files of a job can't be linked.

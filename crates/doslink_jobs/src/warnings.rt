@@ -9,8 +9,9 @@ ghost use Rattle.doslink_link.specs.Linking.{bytes_of};
 ghost use Rattle.doslink_jobs.specs.inside.Warnings as spec;
 
 use crate::inputs::options_of;
-use crate::limit::{push_rest, told_count};
-use doslink_telling::{push_no_code, push_no_stack, push_no_start, push_reached};
+use doslink_telling::{
+    push_no_code, push_no_stack, push_no_start, push_reached, push_rest, told_count,
+};
 use doslink_words::{Job, has_header};
 use omf_communal::{Reached, Variable, far_by_offset};
 use omf_module::{Kind, Module, Standing};
@@ -164,7 +165,7 @@ fn warn_of_what_lacks<A: Allocator + Copy>(
 }
 
 /// The word for the module with this index; empty behind the last.
-fn word_of<'w>(words: &[&'w [u8]], index: usize) -> &'w [u8]
+pub(crate) fn word_of<'w>(words: &[&'w [u8]], index: usize) -> &'w [u8]
     ensures { result.now ≡ unwrap_or (slice_get (bytes_of words.now) index) [] }
 {
     match words.get(index) {

@@ -8,10 +8,9 @@ ghost use Rattle.doslink_telling.specs.Words.{word_at};
 ghost use Rattle.doslink_jobs.specs.inside.Widths as spec;
 ghost use Rattle.doslink_jobs.specs.inside.Widths.{lowering_said};
 
-use crate::limit::{push_rest, told_count};
 use crate::lowering::LoweredModule;
 use crate::taking::Taken;
-use doslink_telling::push_wide_line;
+use doslink_telling::{push_rest, push_wide_line, told_count};
 use doslink_words::Job;
 use omf_frame::Frame;
 use omf_library::module_frames;

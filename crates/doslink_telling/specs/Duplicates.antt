@@ -10,7 +10,7 @@ use Rattle.omf_module.specs.Module.{Module, PublicSymbol}
 use Rattle.omf_place.specs.Names.{spelled}
 use Rattle.omf_place.specs.declared.names.Names.{Names}
 use Rattle.doslink_telling.specs.Lines.{named}
-use Rattle.doslink_telling.specs.Missing.{rest_text, told_count}
+use Rattle.doslink_telling.specs.Missing.{told_count, told_lines}
 use Rattle.doslink_telling.specs.Warnings.{grouped}
 
 -- a public: the index of the module that it is local to, where it is; what of its name counts; its name as it is
@@ -74,9 +74,7 @@ duplicate_line words all tells_all p =
 
 -- the lines of some of them, or of the first and how many more there are
 abbrev pub lines_of : (words : List (List ℕ)) → List Public → (found : List (ℕ × Public)) → (tells_all : Bool) → List ℕ
-lines_of words all found tells_all =
-    let told = told_count (length found) tells_all in
-    flat_map (duplicate_line words all tells_all) (take told found) ++ rest_text (length found - told)
+lines_of words all found tells_all = told_lines (duplicate_line words all tells_all) found tells_all
 
 -- the lines of those of a program
 abbrev pub duplicate_lines : Names → List Module → (words : List (List ℕ)) → (tells_all : Bool) → List ℕ

@@ -79,7 +79,7 @@ missing_line paths linked members w =
     concat (option_map_or (wanting_text paths w.name) (slice_get linked w.wanted_by) []
     ∷ like_text paths linked members (like_offered linked members w.name) ∷ codes "\n" ∷ [])
 
--- how many of so many missing names are told: all, or the first of them
+-- how many of so many of a kind are told: all, or the first of them
 abbrev pub told_count : (count : ℕ) → (tells_all : Bool) → ℕ
 told_count count tells_all = if tells_all || nat_le count most_told then count else most_told
 
@@ -87,9 +87,14 @@ told_count count tells_all = if tells_all || nat_le count most_told then count e
 abbrev pub rest_text : ℕ → List ℕ
 rest_text count = if count == 0 then [] else more_line count
 
+-- a line for each of a kind, or for each of the first, and how many more there are
+abbrev pub told_lines : {X : Type 0} → (line : X → List ℕ) → List X → (tells_all : Bool) → List ℕ
+told_lines line all tells_all =
+    let told = told_count (length all) tells_all in
+    flat_map line (take told all) ++ rest_text (length all - told)
+
 -- the lines of missing names: of all, or of the first of them and how many more there are
 abbrev pub missing_lines : (paths : List (Bor (List ℕ))) → (linked members : List Held) → List Wanted
     → (tells_all : Bool) → List ℕ
 missing_lines paths linked members missing tells_all =
-    let told = told_count (length missing) tells_all in
-    flat_map (missing_line paths linked members) (take told missing) ++ rest_text (length missing - told)
+    told_lines (missing_line paths linked members) missing tells_all

@@ -11,9 +11,9 @@ ghost use Rattle.doslink_telling.specs.Duplicates as spec;
 ghost use Rattle.doslink_telling.specs.inside.Duplicates.{IsIndex, duplicate_said, occurrence_of, places_at};
 ghost use Rattle.doslink_telling.specs.inside.Duplicates.{public_said, same_key};
 
+use crate::limit::{push_rest, told_count};
 use crate::lines::push_named;
 use crate::mapping::slice_at;
-use crate::missing::{push_rest, told_count};
 use crate::warnings::push_counted;
 use omf_module::{Module, PublicSymbol};
 use omf_place::Names;

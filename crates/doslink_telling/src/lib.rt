@@ -6,6 +6,7 @@ mod communals;
 mod duplicates;
 mod faults;
 mod kinds;
+mod limit;
 mod lines;
 mod mapping;
 mod missing;
@@ -23,6 +24,7 @@ pub use faults::{
     push_wide_line,
 };
 pub use kinds::{Foreign, foreign_kind, push_foreign};
+pub use limit::{Limit, push_rest, told_count};
 pub use mapping::table;
 pub use missing::{Unmet, push_missing_lines, unmet_names};
 pub use offering::{Offering, offering_members};

@@ -10,18 +10,15 @@ ghost use Rattle.doslink_telling.specs.Missing.{like_offered, unmet, wants_marks
 ghost use Rattle.doslink_telling.specs.Table.{header_name};
 ghost use Rattle.doslink_telling.specs.inside.Wanters.{wanter_held};
 
+use crate::limit::{push_rest, told_count};
 use crate::telling::{handed_saids, module_word};
 use crate::wanting::{Wanter, wanters_of};
-use crate::warnings::push_more_line;
 use doslink_stock::{Entry, Handed, Stock, members_of};
 use omf_alias::agree;
 use omf_place::Names;
 use omf_search::{Offered, Said, Wanted, Whose, likes, missing};
 use omf_text::{Piece, push_pieces};
 use std::alloc::{AllocError, Allocator};
-
-/// How many missing names are told, where not all are.
-const MOST_TOLD: usize = 20;
 
 /// Whether a name is one that the order module defines where it is wanted.
 fn is_mark(names: Names, name: &[u8]) -> bool
@@ -297,30 +294,6 @@ fn push_told_lines<'m, 'a, A: Allocator + Copy>(
         push_missing_line(alloc, lines, paths, stock, wanters, each, *like)?;
     }
     Ok(())
-}
-
-/// How many of so many names are told: all, or the first of them.
-pub(crate) fn told_count(count: usize, tells_all: bool) -> usize
-    ensures { result ≡ spec.told_count count tells_all }
-{
-    if tells_all || count <= MOST_TOLD {
-        count
-    } else {
-        MOST_TOLD
-    }
-}
-
-/// Appends how many more there are, where there are more.
-pub(crate) fn push_rest<A: Allocator + Copy>(
-    lines: &mut Vec<u8, A>,
-    count: usize,
-) -> Result<(), AllocError>
-    ensures { OnOk result (lines.new.items ≡ lines.old.items ++ spec.rest_text count) }
-{
-    if count == 0 {
-        return Ok(());
-    }
-    push_more_line(lines, count)
 }
 
 /// Appends a line for each missing name, or for the first 20 and how many more there are: the module that wants it, the

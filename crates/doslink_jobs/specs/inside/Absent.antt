@@ -18,7 +18,7 @@ use Rattle.doslink_jobs.specs.declared.gathering.DefaultLibrary.{DefaultLibrary}
 use Rattle.doslink_jobs.specs.declared.gathering.Gathered.{Gathered}
 use Rattle.doslink_jobs.specs.Jobs.{AreGiven, IsAskedBy, library_folders, names_of}
 use Rattle.doslink_jobs.specs.inside.Gathering.{Holds}
-use Rattle.doslink_jobs.specs.inside.Warnings.{told_lines}
+use Rattle.doslink_telling.specs.Missing.{told_lines}
 
 -- ---- the lines
 

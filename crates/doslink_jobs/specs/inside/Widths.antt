@@ -9,7 +9,7 @@ use Rattle.omf_library.specs.Records.{module_records}
 use Rattle.doslink_telling.specs.Lines.{wide_line}
 use Rattle.doslink_words.specs.declared.job.Job.{Job}
 use Rattle.doslink_jobs.specs.declared.lowering.LoweredModule.{LoweredModule}
-use Rattle.doslink_jobs.specs.inside.Warnings.{told_lines}
+use Rattle.doslink_telling.specs.Missing.{told_lines}
 
 -- the attributes of a segment (TIS OMF 1.1, SEGDEF, the byte ACBP) are those of one of 32 bits, by the bit P, that
 -- isn't

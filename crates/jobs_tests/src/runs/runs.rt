@@ -18,7 +18,8 @@ use super::world::{
 };
 use super::written::{MAP, PROGRAMS, WRITTEN};
 use desk::{Count, Desk, Page, Pen};
-use doslink_jobs::{Environment, language_of, run_words};
+use doslink_asked::{Request, language_of};
+use doslink_jobs::run_words;
 use omf_files::BufferedSink;
 use omf_frame::WriteSink;
 use std::alloc::{AllocError, Global};
@@ -135,21 +136,9 @@ fn run_with(alloc: Global, front: Front<'_>, row: &str, path: &str) -> Result<Do
         return Err(AllocError);
     };
     let mut errors = WriteSink::new(Pen::new(&error_page));
-    let environment = Environment {
-        folders: &["", "ENV"],
-        link: front.link,
-    };
-    let status = match words.as_slice() {
-        [program, words @ ..] => run_words(
-            alloc,
-            desk,
-            language_of(program),
-            words,
-            &environment,
-            &mut output,
-            &mut errors,
-        ),
-        [] => 9,
+    let status = match request_of(&words, front.link) {
+        Some(request) => run_words(alloc, desk, &request, &mut output, &mut errors),
+        None => 9,
     };
     Ok(Done {
         status,
@@ -157,6 +146,19 @@ fn run_with(alloc: Global, front: Front<'_>, row: &str, path: &str) -> Result<Do
         errors: error_page.bytes(alloc)?,
         out: out.bytes(alloc)?,
         map: map.bytes(alloc)?,
+    })
+}
+
+/// What a program's name and the words after it ask for.
+fn request_of<'r>(words: &'r [&'r str], link: &'r str) -> Option<Request<'r>> {
+    let [program, words @ ..] = words else {
+        return None;
+    };
+    Some(Request {
+        language: language_of(program),
+        words,
+        link,
+        folders: &["", "ENV"],
     })
 }
 

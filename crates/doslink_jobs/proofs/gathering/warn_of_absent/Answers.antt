@@ -4,10 +4,9 @@ use Rattle.std.proofs.Common.{subst, sym, take}
 use Rattle.std.specs.List.{flat_map, take-map}
 use Rattle.std.proofs.lemmas.List.{length-map}
 use Rattle.std.proofs.lemmas.List.Folds.{flat_map-map}
-use Rattle.doslink_telling.specs.Missing.{rest_text, told_count}
+use Rattle.doslink_telling.specs.Missing.{rest_text, told_count, told_lines}
 use Rattle.doslink_telling.proofs.Texts.{then-ok}
 use Rattle.doslink_jobs.specs.inside.Absent.{absent_warning, library_said}
-use Rattle.doslink_jobs.specs.inside.Warnings.{told_lines}
 use Rattle.doslink_jobs.proofs.gathering.warn_of_absent.Goals as goal
 use Rattle.doslink_jobs.proofs.gathering.warn_of_absent.Goals.{else-job-via-then-job+else-not-failed}
 use Rattle.doslink_jobs.proofs.gathering.warn_of_absent.Goals.{else-job-via-else-job}

@@ -1,7 +1,6 @@
 use Rattle.std.proofs.Common.{◌≡◌, ap, false, is_some, sym, true, ◌∙◌}
 use Rattle.std.specs.Option.{option_map_or}
-use Rattle.doslink_jobs.specs.Places.{extension_of}
-use Rattle.doslink_jobs.specs.Wrong.{is_other_form}
+use Rattle.doslink_asked.specs.Paths.{extension_of, is_other_form}
 use Rattle.doslink_jobs.proofs.Placing.{form-said, form-unsaid, not-some, out-none}
 use Rattle.doslink_jobs.proofs.Refused.{OnHalt-words}
 use Rattle.doslink_jobs.proofs.places.check_form.Goals as goal

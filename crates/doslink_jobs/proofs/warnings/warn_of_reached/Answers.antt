@@ -5,9 +5,9 @@ use Rattle.std.proofs.lemmas.List.Folds.{flat_map-map}
 use Rattle.omf_communal.specs.Deciding.{variable_said}
 use Rattle.omf_communal.specs.Far.{far_by_offset, reached_said}
 use Rattle.doslink_link.specs.Linking.{bytes_of}
-use Rattle.doslink_telling.specs.Missing.{rest_text, told_count}
+use Rattle.doslink_telling.specs.Missing.{rest_text, told_count, told_lines}
 use Rattle.doslink_telling.proofs.Texts.{then-ok}
-use Rattle.doslink_jobs.specs.inside.Warnings.{reached_warning, told_lines}
+use Rattle.doslink_jobs.specs.inside.Warnings.{reached_warning}
 use Rattle.doslink_jobs.proofs.warnings.warn_of_reached.Goals as goal
 
 pub returns : goal.returns

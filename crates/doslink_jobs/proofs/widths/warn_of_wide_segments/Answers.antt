@@ -5,10 +5,9 @@ use Rattle.std.specs.List.{flat_map, take-map}
 use Rattle.std.proofs.lemmas.List.{length-map}
 use Rattle.std.proofs.lemmas.List.Folds.{flat_map-map}
 use Rattle.doslink_telling.specs.Lines.{wide_line}
-use Rattle.doslink_telling.specs.Missing.{rest_text, told_count}
+use Rattle.doslink_telling.specs.Missing.{rest_text, told_count, told_lines}
 use Rattle.doslink_telling.specs.Words.{word_at}
 use Rattle.doslink_telling.proofs.Texts.{then-ok}
-use Rattle.doslink_jobs.specs.inside.Warnings.{told_lines}
 use Rattle.doslink_jobs.specs.inside.Widths.{wide_words}
 use Rattle.doslink_jobs.specs.inside.Widths.{lowering_said}
 use Rattle.doslink_jobs.proofs.widths.warn_of_wide_segments.Goals as goal

@@ -1,41 +1,37 @@
-use Rattle.std.proofs.Common.{◌≡◌, None, Some, ap, option_map, sym, ◌∙◌}
 use Rattle.std.specs.declared.alloc.Global.{Global}
+use Rattle.doslink_asked.specs.Asked.{Ask}
+use Rattle.doslink_asked.specs.Fronts.{IsFront}
 use Rattle.doslink_words.specs.Tokens.{texts}
 use Rattle.doslink_files.specs.Written.{StandsAt}
-use Rattle.doslink_jobs.specs.Fronts.{IsFront}
-use Rattle.doslink_jobs.specs.Runs.{Runs, RunsSpoken, as_asked, language_named}
-use Rattle.doslink_jobs.proofs.Doing.{EndsBy-weaker}
-use Rattle.doslink_jobs.proofs.Asking.{runs-named, runs-plain}
+use Rattle.doslink_jobs.proofs.Doing.{EndsBy-done, EndsBy-none, EndsBy-stopped}
 use Rattle.doslink_jobs.proofs.words.run_words.Goals as goal
 
-pub returns-in_default : goal.returns-in_default
-returns-in_default g c =
+pub returns-in-Ok-Job : goal.returns-in-Ok-Job
+returns-in-Ok-Job g c =
     let told = g.W.World.bytes c.args.world in
+    let looks = g.W.World.looks c.args.world in
     let Writes = StandsAt (g.W.World.blank c.args.world) (g.W.World.Puts c.args.world) in
-    let front = IsFront told (g.W.World.looks c.args.world) c.args.environment.now.link.now in
-    let words = texts c.args.words.now in
-    let language = c.args.language in
-    let none : as_asked words ≡ None =
-    sym c.as_asked.ensures ∙ ap (option_map (λ a. (a.0.now, texts a.1.now))) c.in_default.is in
-    EndsBy-weaker Global told Writes (texts c.args.environment.now.folders.now) (λ does helps. Runs told does helps front language words)
-    (λ does helps. RunsSpoken told does helps front language words) _ c.run_in.result
-    (λ does helps runs. runs-plain told does helps front language words none runs) c.run_in.ensures
+    let request = c.args.request.now in
+    EndsBy-done Global told looks Writes (texts request.folders.now)
+    (Ask told (IsFront told looks request.link.now) request.language (texts request.words.now)) c.in-Ok-Job.job _
+    c.run_lines.result (rw c.in-Ok-Job.field-0-is at c.in-Ok-Job.ensures) c.run_lines.ensures
 
-pub returns-in-Some-language_named : goal.returns-in-Some-language_named
-returns-in-Some-language_named g c =
+pub returns-in-Ok-Text : goal.returns-in-Ok-Text
+returns-in-Ok-Text g c =
     let told = g.W.World.bytes c.args.world in
+    let looks = g.W.World.looks c.args.world in
     let Writes = StandsAt (g.W.World.blank c.args.world) (g.W.World.Puts c.args.world) in
-    let front = IsFront told (g.W.World.looks c.args.world) c.args.environment.now.link.now in
-    let words = texts c.args.words.now in
-    let language = c.args.language in
-    let name = c.in-Some.name.now in
-    let rest = texts c.in-Some.rest.now in
-    let named = c.in-Some-language_named.named in
-    let asked : as_asked words ≡ Some (name, rest) =
-    sym c.as_asked.ensures ∙ ap (option_map (λ a. (a.0.now, texts a.1.now))) c.in-Some.is in
-    let is : language_named name ≡ Some named =
-    ap language_named (sym c.as_bytes.ensures.value) ∙ sym c.language_named.ensures ∙ c.in-Some-language_named.is in
-    EndsBy-weaker Global told Writes (texts c.args.environment.now.folders.now) (λ does helps. Runs told does helps front named rest)
-    (λ does helps. RunsSpoken told does helps front language words) _ c.run_in-in-Some-language_named.result
-    (λ does helps runs. runs-named told does helps front language words name rest named asked is runs)
-    c.run_in-in-Some-language_named.ensures
+    let request = c.args.request.now in
+    EndsBy-none Global told Writes (texts request.folders.now)
+    (Ask told (IsFront told looks request.link.now) request.language (texts request.words.now)) _ c.print_text.result
+    (rw c.in-Ok-Text.field-0-is at c.in-Ok-Text.ensures) c.print_text.ensures
+
+pub returns : goal.returns
+returns g c =
+    let told = g.W.World.bytes c.args.world in
+    let looks = g.W.World.looks c.args.world in
+    let Writes = StandsAt (g.W.World.blank c.args.world) (g.W.World.Puts c.args.world) in
+    let request = c.args.request.now in
+    EndsBy-stopped Global told Writes (texts request.folders.now)
+    (Ask told (IsFront told looks request.link.now) request.language (texts request.words.now)) _ c.halt_of.result
+    c.finish.result _ c.finish.ensures.status c.halt_of.ensures c.finish.ensures.told

@@ -22,7 +22,7 @@ returns g c = on_ok_weaker c.push_named.result (λ pushed. λ all is.
     let len : length found ≡ length same = ap length here ∙ length-map same occurrence_of in
     let n = c.told_count-told.result in
     let told = told_count (length same) c.args.tells_all in
-    let count : n ≡ told = c.told_count-told.ensures ∙ ap (λ k. told_count k c.args.tells_all) len in
+    let count : n ≡ told = c.told_count-told.ensures.told ∙ ap (λ k. told_count k c.args.tells_all) len in
     let word = λ (o : Occurrence). unwrap_or (slice_get words o.input) [] in
     let picked : map word (take n found) ≡ map (λ e. unwrap_or (slice_get words e.1.input) []) (take told same) =
     ap (λ l. map word (take n l)) here ∙ ap (map word) (take-map occurrence_of n same) ∙ map-map _ _ _

@@ -18,7 +18,7 @@ returns g c = on_ok_weaker c.push_rest.result (λ last. λ all is.
     let told = told_count (length said) c.args.tells_all in
     let line = duplicate_line (bytes_of c.args.words.now) all c.args.tells_all in
     let len : length said ≡ length found = length-map found duplicate_said in
-    let same : n ≡ told = c.told_count-told.ensures ∙ ap (λ k. told_count k c.args.tells_all) (sym len) in
+    let same : n ≡ told = c.told_count-told.ensures.told ∙ ap (λ k. told_count k c.args.tells_all) (sym len) in
     let first : s1 ≡ s0 ++ flat_map line (take told said) =
     c.in_ok-push_told.ensures all is ∙ ap (λ l. s0 ++ flat_map line l) (sym (take-map duplicate_said n found))
     ∙ ap (λ k. s0 ++ flat_map line (take k said)) same in

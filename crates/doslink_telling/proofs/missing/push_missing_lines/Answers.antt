@@ -20,7 +20,7 @@ returns g c =
     let line = missing_line c.args.paths.now (map handed_held c.args.handed.now)
     (map entry_held c.args.stock.now.members.items) in
     let len : length all ≡ length missing = length-map missing wanted_said in
-    let same : n ≡ told = c.told_count-told.ensures ∙ ap (λ k. told_count k c.args.tells_all) (sym len) in
+    let same : n ≡ told = c.told_count-told.ensures.told ∙ ap (λ k. told_count k c.args.tells_all) (sym len) in
     let first : s1 ≡ s0 ++ flat_map line (take told all) =
     c.in_ok-push_told_lines.ensures ∙ ap (λ l. s0 ++ flat_map line l) (sym (take-map wanted_said n missing))
     ∙ ap (λ k. s0 ++ flat_map line (take k all)) same in

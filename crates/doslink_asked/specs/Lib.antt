@@ -1,0 +1,10 @@
+pub mod Asked
+pub mod Folders
+pub mod Fronts
+pub mod Languages
+pub mod Lines
+pub mod Named
+pub mod Paths
+pub mod Responses
+pub mod Spoken
+pub mod inside

@@ -1,0 +1,5 @@
+-- How the code sees what it works on: no public contract cites any of it.
+pub mod FormNames
+pub mod Idle
+pub mod Lines
+pub mod Spoken

@@ -1,5 +1,0 @@
-use Rattle.std.proofs.Common.{length}
-use Rattle.doslink_jobs.proofs.places.+first_file.Given as goal
-
-abbrev pub decreases-first_file : goal.decreases-first_file
-decreases-first_file l = length l.inputs.now

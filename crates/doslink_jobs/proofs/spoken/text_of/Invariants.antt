@@ -1,7 +1,0 @@
-use Rattle.std.proofs.Common.{◌≡◌, string_bytes, take}
-use Rattle.doslink_jobs.specs.Spoken.{text_of}
-use Rattle.doslink_jobs.specs.inside.Spoken.{said_lines}
-use Rattle.doslink_jobs.proofs.spoken.text_of.Given as goal
-
-abbrev pub invariant-loop-line : goal.invariant-loop-line
-invariant-loop-line l = string_bytes l.text ≡ text_of (said_lines (take l.line-index l.lines))

@@ -1,9 +1,0 @@
-use Rattle.std.proofs.Common.{◌≡◌, take}
-use Rattle.std.specs.List.{flat_map}
-use Rattle.doslink_words.specs.Tokens.{texts}
-use Rattle.doslink_jobs.specs.Runs.{folders_between_colons}
-use Rattle.doslink_jobs.proofs.words.library_folders.Given as goal
-
-abbrev pub invariant-loop-part : goal.invariant-loop-part
-invariant-loop-part l =
-    texts l.folders.items ≡ flat_map folders_between_colons (texts (take l.part-index l.part-items))
