@@ -164,8 +164,28 @@ take_released() {
     elif take_port "$1" "$2"; then
         echo "$1: this is the port for this system, made of the module of the released program (docs/PORTS.md)," \
             "which doesn't run here" >&2
-    else
+    elif ! take_older_port "$1"; then
         echo "$1: the released program doesn't run here, and release/ports gives no port of these sources for it" >&2
+    fi
+}
+
+# Where the kit isn't here, which would build a program of these sources, takes the port that was released last, and says
+# so each time: take_older_port PROGRAM
+take_older_port() {
+    ! command -v rt >/dev/null && take_port "$1" "$(said_of "$1" sources ports/PORTS)" || return
+    is_older=1
+    echo "$1: this is the port for this system that was released last (docs/PORTS.md), of older sources than these" >&2
+}
+
+# The same with the program that was released last, or the port where that one doesn't run here: take_older PROGRAM
+take_older() {
+    ! command -v rt >/dev/null || return
+    if unpack "$1" "$1.xz" "$(said_of "$1" sha256)" && "$unpacked/$1" --version >/dev/null 2>&1; then
+        is_older=1
+        echo "$1: this is the program that was released last, of older sources than these," \
+            "which the Rattle kit would build; it isn't here" >&2
+    else
+        take_older_port "$1"
     fi
 }
 
@@ -207,6 +227,12 @@ is_newer() {
     [ -x "$top/crates/$1/out/$1" ] && found=$(touched "$top/crates/$1/out/$1") && [ -z "$found" ]
 }
 
+# Notes of a program that it is of sources with this sum, as they stood when a file was written:
+# note_sources PROGRAM SUM FILE
+note_sources() {
+    watched >"$1.watched" && echo "$2" >"$1.sources" && touch -r "$3" "$1.sources"
+}
+
 # Has `program` name the one to run, which is unpacked or built where it has to be: choose PROGRAM
 choose() {
     local name="$1" begun now status
@@ -217,9 +243,9 @@ choose() {
         is_seen "$program" && return
     done
     begun=$(mktemp)
+    is_older='' # of older sources, so that the next run looks again
     now=$(sum_of "$name")
-    make_or_find "$name" "$now" "$@" && watched >"$program.watched" && echo "$now" >"$program.sources" &&
-        touch -r "$begun" "$program.sources"
+    make_or_find "$name" "$now" "$@" && { [ -n "$is_older" ] || note_sources "$program" "$now" "$begun"; }
     status=$?
     rm -f "$begun"
     return $status
@@ -233,7 +259,7 @@ make_or_find() {
     for program in "$@"; do
         [ -x "$program" ] && [ "$(cat "$program.sources" 2>/dev/null)" = "$now" ] && return
     done
-    if [ -z "${OMF_BUILD-}" ] && ! is_newer "$name" && take_released "$name" "$now"; then
+    if [ -z "${OMF_BUILD-}" ] && ! is_newer "$name" && { take_released "$name" "$now" || take_older "$name"; }; then
         program=$unpacked/$name
         return
     fi
