@@ -14,7 +14,7 @@ from model.directives import Form, Input, Job, Stack
 from model.faults import Fault
 from model.names import Names
 from model.ordering import Class, Named
-from model.places import DosFiles, PlacedFiles
+from model.places import DosFiles, PlacedFiles, UnlistedFiles
 from model.records import Direct, Method, PublicName, Spelling
 from worked import MOST, NEAR_CALL, NO_REGISTERS, NO_TABLE, header
 
@@ -1309,6 +1309,12 @@ REDIRECTED = [
     ("others", [(0x9C, "C400 54 02 C400 04 02 02 C400 15 02 01 C401 46 01 C402 56 04")],
      "F5 T0 2, F0 2 T0 2, F1 2 T1 1, F4 T2 1, F5 T2 4"),
 ]
+# two names of files that aren't there yet; whether they will be one, and whether where folders can't be listed
+NEW_NAMES = [
+    ("OUT.EXE", "out.exe", True, False),
+    (r".\OUT.EXE", "OUT.EXE", True, True),
+    ("OUT.EXE", "OUT.MAP", False, False),
+]
 # bodies of records of modules, and the fault
 ENDLESS_DEFAULTS = [
     ("its own default", [[(0x8C, "0161 00"), (0x88, "00A8 01 01")]],
@@ -1737,6 +1743,13 @@ def without_lacks(text):
     return "".join(line + "\n" for line in text.splitlines() if line not in LACKS)
 
 
+def check_new_names():
+    for one, other, listed, unlisted in NEW_NAMES:
+        for kind, wanted in ((PlacedFiles, listed), (UnlistedFiles, unlisted)):
+            files = DosFiles(kind({}))
+            assert (files.becomes(one) == files.becomes(other)) == wanted, (kind, one, other)
+
+
 def check_links():
     for title, asked, folders, wanted, told in LINKS:
         answer = linking.link(Job(**{"out": "out", "is_verbose": True, **asked}), FILES, folders)
@@ -1785,4 +1798,5 @@ def check():
     check_locals()
     check_directives()
     check_lines()
+    check_new_names()
     check_links()
