@@ -155,8 +155,8 @@ take_port() {
 }
 
 # Unpacks the released program if it is of sources with this sum, and says so. Where it doesn't run here, since the C
-# library is older, or the processor or the system another, the port is taken, which is made of the same module; on Linux
-# it is a static program: take_released PROGRAM SUM
+# library is older, or the processor or the system another, the port is taken, which is made of the same module; on
+# Linux it is a static program: take_released PROGRAM SUM
 take_released() {
     [ "$(said_of "$1" sources)" = "$2" ] && unpack "$1" "$1.xz" "$(said_of "$1" sha256)" || return
     if "$unpacked/$1" --version >/dev/null 2>&1; then
@@ -169,8 +169,8 @@ take_released() {
     fi
 }
 
-# Where the kit isn't here, which would build a program of these sources, takes the port that was released last, and says
-# so each time: take_older_port PROGRAM
+# Where the kit isn't here, which would build a program of these sources, takes the port that was released last, and
+# says so each time: take_older_port PROGRAM
 take_older_port() {
     ! command -v rt >/dev/null && take_port "$1" "$(said_of "$1" sources ports/PORTS)" || return
     is_older=1
