@@ -2,7 +2,7 @@
 #![tactic(auto)]
 
 mod bodies;
-mod communals;
+pub mod communals;
 mod ends;
 mod externals;
 mod fault;

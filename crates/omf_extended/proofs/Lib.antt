@@ -1,0 +1,4 @@
+pub mod Faults
+pub mod Chains
+pub mod Blocks
+pub mod Layouts
