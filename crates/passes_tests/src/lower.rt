@@ -15,6 +15,8 @@ mod narrow;
 #[cfg(test)]
 mod places;
 #[cfg(test)]
+mod plain;
+#[cfg(test)]
 mod renamed;
 #[cfg(test)]
 mod taken;

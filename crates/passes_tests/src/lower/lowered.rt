@@ -2,6 +2,7 @@
 //!
 //! A row of a table has two modules: one, and what it is lowered to. Of a row with one module, that module stays.
 
+use super::plain::compare_plain;
 use omf_alias::Renaming;
 use omf_lower::{Lowering, LoweringFault, lower};
 use omf_place::Names;
@@ -66,6 +67,7 @@ pub fn run_renamed<R: Abort>(
         if let [module, ..] = row.inputs.as_slice() {
             let answer = told(alloc, alloc, module, lowering, renaming)?;
             assert_eq!(rt; answer.as_str(), wanted.as_str(), "{text}");
+            compare_plain(rt, alloc, lowering.keep_debug, renaming, &row)?;
         }
     }
     Ok(())

@@ -1,0 +1,12 @@
+pub mod Given
+pub mod Step
+pub mod Flat
+pub mod Segments
+pub mod Externals
+pub mod Data
+pub mod Fixups
+pub mod Seen
+pub mod Plain
+pub mod View
+pub mod Reading
+pub mod inside

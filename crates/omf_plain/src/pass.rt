@@ -1,0 +1,364 @@
+//! The records of a module, taken one behind the other.
+
+ghost use Rattle.std.specs.Prelude.{◌≡◌, ◌≤◌, ◌++◌, false, true, List, OnOk, map};
+ghost use Rattle.std.specs.declared.result.Result.{Result};
+ghost use Rattle.std.specs.Option.{option_map};
+ghost use Rattle.omf_alias.specs.Said.{renaming_said};
+ghost use Rattle.omf_extended.specs.View.{extended_view};
+ghost use Rattle.omf_library.specs.Names.{texts};
+ghost use Rattle.omf_record.specs.Record as said;
+ghost use Rattle.omf_record.specs.View.{external_view, view};
+ghost use Rattle.omf_record.specs.declared.fixups.Subrecord.{Subrecord};
+ghost use Rattle.omf_wide.specs.View.{said_view};
+ghost use Rattle.omf_plain.specs.declared.fault.Obstacle.{Obstacle};
+ghost use Rattle.omf_wide.specs.Communals as wide;
+ghost use Rattle.omf_plain.specs.Externals as ext;
+ghost use Rattle.omf_plain.specs.Fixups as fix;
+ghost use Rattle.omf_plain.specs.Step.{alone, each_of};
+ghost use Rattle.omf_plain.specs.Given.{given_len, repeated_len, said_len};
+ghost use Rattle.omf_plain.specs.Plain as plain;
+ghost use Rattle.omf_plain.specs.Seen as seen;
+ghost use Rattle.omf_plain.specs.inside.Steps.{says_nothing};
+ghost use Rattle.omf_plain.specs.View.{Answers, data_view, given_view, seen_by, taking_of};
+
+use crate::data::{Data, contents_of};
+use crate::externals::{communal_externals, listed_externals, plain_externals};
+use crate::fault::{Obstacle, PlainFault};
+use crate::fixups::{plain_start, plain_subrecords};
+use crate::flat::{base_is_flat, flag_at, is_flat_group};
+use crate::given::Given;
+use crate::segments::{is_kept_out, nothing_of, plain_segment};
+use omf_alias::Renaming;
+use omf_extended::Extended;
+use omf_record::{External, Record, Subrecord};
+use omf_wide::{Communal, ListedExternal, Said, WideSegment, WideSubrecord};
+use std::alloc::{AllocError, Allocator, Global};
+
+/// How the records of a module are taken, and what is known of it from those so far.
+#[derive(Drop)]
+pub struct Pass<'a, A: Allocator + Copy = Global> {
+    alloc: A,
+    /// Whether what debuggers read, of the classes DEBSYM, DEBTYP and DWARF, is kept in the program.
+    keep_debug: bool,
+    /// What names mean.
+    renaming: Renaming<'a, 'a>,
+    /// The names of LNAMES and LLNAMES.
+    names: Vec<&'a [u8], A>,
+    /// Of each segment whether it is kept out.
+    kept_out: Vec<bool, A>,
+    /// Of each group whether it is FLAT.
+    flat: Vec<bool, A>,
+    /// The last record of data.
+    last: Data<'a, A>,
+}
+
+/// A record, or none, or what is in the way of one.
+type Taken<'a, A> = Result<Option<Record<'a, A>>, PlainFault>;
+
+/// What is in the way of a comment.
+fn comment_obstacle(class: u8, bytes: &[u8]) -> Option<Obstacle>
+    ensures { result ≡ plain.comment_obstacle class bytes.now }
+{
+    match (class, bytes) {
+        (0xAA, _) => Some(Obstacle::EasyOmf),
+        (0xA0, [1, ..]) => Some(Obstacle::ImportedName),
+        _ => None,
+    }
+}
+
+/// EXTDEF or LEXTDEF with these names.
+#[tactic(auto, unfolding(omf_record::specs::View::view))]
+fn extdef<'a, A: Allocator + Copy>(
+    local: bool,
+    names: Result<Vec<External<'a>, A>, PlainFault>,
+) -> Taken<'a, A>
+    ensures { (stands : Result (List said.External) Obstacle) → Answers (λ v. map external_view v.items) names.entry stands
+        → Answers (option_map view) result (plain.externals local stands) }
+{
+    let names = names?;
+    Ok(Some(Record::Extdef { local, names }))
+}
+
+/// FIXUPP with these subrecords.
+#[tactic(auto, unfolding(omf_record::specs::View::view))]
+fn fixupp<'a, A: Allocator + Copy>(
+    subrecords: Result<Vec<Subrecord, A>, PlainFault>,
+) -> Taken<'a, A>
+    ensures { (stands : Result (List Subrecord) Obstacle) → Answers (λ v. v.items) subrecords stands
+        → Answers (option_map view) result (plain.fixupp stands) }
+{
+    let subrecords = subrecords?;
+    Ok(Some(Record::Fixupp { subrecords }))
+}
+
+impl<'a, A: Allocator + Copy> Pass<'a, A> {
+    /// Before the first record.
+    pub fn new(alloc: A, keep_debug: bool, renaming: &Renaming<'a, 'a>) -> Pass<'a, A>
+        ensures taking { taking_of result ≡ record { keep_debug = keep_debug; renaming = renaming_said renaming.now } }
+        ensures seen { seen_by result ≡ seen.nothing_seen }
+    {
+        Pass {
+            alloc,
+            keep_debug,
+            renaming: *renaming,
+            names: Vec::new(alloc),
+            kept_out: Vec::new(alloc),
+            flat: Vec::new(alloc),
+            last: Data::Absent,
+        }
+    }
+
+    /// Notes the names of LNAMES.
+    fn note_names(&mut self, names: &[&'a [u8]]) -> Result<(), AllocError>
+        ensures taking { taking_of self.new ≡ taking_of self.old }
+        ensures seen { OnOk result (seen_by self.new ≡ record (seen_by self.old) {
+          names = (seen_by self.old).names ++ texts names.now;
+        }) }
+    {
+        for name in names {
+            self.names.push(name)?;
+        }
+        Ok(())
+    }
+
+    /// Notes the last record of data, which is of this segment.
+    fn note_data(&mut self, segment: u16, data: Data<'a, A>)
+        ensures taking { taking_of self.new ≡ taking_of self.old }
+        ensures seen { seen_by self.new ≡ record (seen_by self.old) {
+          last = seen.kept_data (seen_by self.old).kept_out segment (data_view data.entry);
+        } }
+    {
+        self.last = if flag_at(&self.kept_out, segment) {
+            Data::KeptOut
+        } else {
+            data
+        };
+    }
+
+    /// A record of data, where its segment isn't kept out.
+    fn kept(&self, segment: u16, record: Record<'a, A>) -> Option<Record<'a, A>>
+        ensures { option_map view result ≡ plain.kept (seen_by self.now) segment (view record.entry) }
+    {
+        let kept_out = flag_at(&self.kept_out, segment);
+        if kept_out { None } else { Some(record) }
+    }
+
+    /// EXTDEF as it is taken.
+    fn plain_extdef(&self, names: &[External<'a>]) -> Taken<'a, A>
+        ensures { Answers (option_map view) result (plain.externals false
+            (each_of (λ e. alone (ext.plain_external (taking_of self.now).renaming e)) (map external_view names.now))) }
+    {
+        extdef(false, plain_externals(self.alloc, &self.renaming, names))
+    }
+
+    /// CEXTDEF as it is taken.
+    fn plain_cextdef(&self, names: &[ListedExternal]) -> Taken<'a, A>
+        ensures { Answers (option_map view) result (plain.externals false
+            (each_of (λ e. alone (ext.plain_listed (taking_of self.now).renaming (seen_by self.now).names e)) names.now)) }
+    {
+        extdef(
+            false,
+            listed_externals(self.alloc, &self.renaming, &self.names, names),
+        )
+    }
+
+    /// COMDEF or LCOMDEF as it is taken.
+    fn plain_comdef(&self, local: bool, entries: &[Communal<'a>]) -> Taken<'a, A>
+        ensures { Answers (option_map view) result (plain.externals local
+            (each_of (λ c. alone (ext.plain_communal (taking_of self.now).renaming local c c.extent))
+            (map wide.plain_communal entries.now))) }
+    {
+        extdef(
+            local,
+            communal_externals(self.alloc, &self.renaming, local, entries),
+        )
+    }
+
+    /// FIXUPP as it is taken.
+    fn plain_fixupp(&self, subrecords: &[WideSubrecord]) -> Taken<'a, A>
+        ensures { Answers (option_map view) result (plain.fixupp
+            (each_of (fix.plain_subrecord (seen_by self.now).flat (seen_by self.now).last) subrecords.now)) }
+    {
+        fixupp(plain_subrecords(self.alloc, &self.flat, &self.last, subrecords))
+    }
+
+    /// One of the fourteen that says nothing to those behind it, as it is taken.
+    #[tactic(auto, unfolding(omf_record::specs::View::view))]
+    fn plain_record(&self, record: Record<'a, A>) -> Taken<'a, A>
+        requires { says_nothing (view «record») ≡ true }
+        ensures { Answers (option_map view) result
+            (plain.plain_record (taking_of self.now) (seen_by self.now) (view record.entry)) }
+    {
+        match record {
+            Record::Coment { kind, class, bytes } => match comment_obstacle(class, bytes) {
+                Some(obstacle) => Err(PlainFault::Of(obstacle)),
+                None => Ok(Some(Record::Coment { kind, class, bytes })),
+            },
+            Record::Extdef { local, names } => {
+                if local {
+                    Ok(Some(Record::Extdef { local, names }))
+                } else {
+                    self.plain_extdef(&names)
+                }
+            }
+            Record::Pubdef {
+                local,
+                base,
+                publics,
+            } => {
+                if base_is_flat(&self.flat, base) {
+                    return Err(PlainFault::Of(Obstacle::FlatFrame));
+                }
+                Ok(Some(Record::Pubdef {
+                    local,
+                    base,
+                    publics,
+                }))
+            }
+            same => Ok(Some(same)),
+        }
+    }
+
+    /// One of the fourteen, or one that says what one of them does, as it is taken.
+    #[tactic(auto, unfolding(omf_record::specs::View::view))]
+    fn take_record(&mut self, record: Record<'a, A>) -> Taken<'a, A>
+        requires { repeated_len (view «record») ≤ 65534 }
+        ensures taking { taking_of self.new ≡ taking_of self.old }
+        ensures plain { Answers (option_map view) result
+            (plain.plain_record (taking_of self.old) (seen_by self.old) (view record.entry)) }
+        ensures seen { OnOk result (seen_by self.new ≡ seen.seen_after_record (seen_by self.old) (view record.entry)) }
+    {
+        match record {
+            Record::Lnames { names } => {
+                self.note_names(&names)?;
+                Ok(Some(Record::Lnames { names }))
+            }
+            Record::Grpdef { name, segments } => {
+                let flat = is_flat_group(&self.names, name);
+                self.flat.push(flat)?;
+                Ok(Some(Record::Grpdef { name, segments }))
+            }
+            Record::Ledata {
+                segment,
+                offset,
+                bytes,
+            } => {
+                self.note_data(
+                    segment,
+                    Data::Stored {
+                        segment,
+                        offset,
+                        bytes,
+                    },
+                );
+                Ok(self.kept(
+                    segment,
+                    Record::Ledata {
+                        segment,
+                        offset,
+                        bytes,
+                    },
+                ))
+            }
+            Record::Lidata {
+                segment,
+                offset,
+                blocks,
+            } => {
+                let contents = contents_of(self.alloc, &blocks)?;
+                self.note_data(segment, Data::Repeated { contents });
+                Ok(self.kept(
+                    segment,
+                    Record::Lidata {
+                        segment,
+                        offset,
+                        blocks,
+                    },
+                ))
+            }
+            other => self.plain_record(other),
+        }
+    }
+
+    /// A segment as it is taken.
+    #[tactic(auto, unfolding(omf_record::specs::View::view))]
+    fn take_segment(&mut self, wide: bool, segment: WideSegment) -> Taken<'a, A>
+        ensures taking { taking_of self.new ≡ taking_of self.old }
+        ensures plain { Answers (option_map view) result
+            (plain.plain_segdef (taking_of self.old) (seen_by self.old) wide segment) }
+        ensures seen { OnOk result (seen_by self.new
+            ≡ seen.seen_after_segment (taking_of self.old).keep_debug (seen_by self.old) segment) }
+    {
+        let kept_out = is_kept_out(self.keep_debug, &self.names, segment.class);
+        let segment = if kept_out {
+            nothing_of(segment)
+        } else {
+            plain_segment(wide, segment)?
+        };
+        self.kept_out.push(kept_out)?;
+        Ok(Some(Record::Segdef { segment }))
+    }
+
+    /// One of 32 bits, or like it, as it is taken.
+    #[tactic(auto, unfolding(omf_wide::specs::View::said_view, omf_record::specs::View::view))]
+    fn take_said(&mut self, said: Said<'a, A>) -> Taken<'a, A>
+        requires { said_len (said_view said) ≤ 65534 }
+        ensures taking { taking_of self.new ≡ taking_of self.old }
+        ensures plain { Answers (option_map view) result
+            (plain.plain_said (taking_of self.old) (seen_by self.old) (said_view said.entry)) }
+        ensures seen { OnOk result (seen_by self.new
+            ≡ seen.seen_after_said (taking_of self.old).keep_debug (seen_by self.old) (said_view said.entry)) }
+    {
+        match said {
+            Said::Plain(record) => self.take_record(record),
+            Said::Fixupp {
+                wide: _,
+                subrecords,
+            } => self.plain_fixupp(&subrecords),
+            Said::Modend {
+                wide: _,
+                main,
+                start,
+            } => {
+                let start = plain_start(&self.flat, start)?;
+                Ok(Some(Record::Modend { main, start }))
+            }
+            Said::Segdef { wide, segment } => self.take_segment(wide, segment),
+            Said::Cextdef { names } => self.plain_cextdef(&names),
+        }
+    }
+
+    /// One that came after Intel's as it is taken.
+    #[tactic(auto, unfolding(omf_extended::specs::View::extended_view))]
+    fn plain_later(&self, said: Extended<'a, A>) -> Taken<'a, A>
+        ensures { Answers (option_map view) result (plain.plain_later (taking_of self.now) (extended_view said.entry)) }
+    {
+        match said {
+            Extended::Comdef {
+                local,
+                communals,
+                unknown: _,
+            } => self.plain_comdef(local, &communals),
+            Extended::Alias { aliases: _ } => Ok(None),
+            _ => Err(PlainFault::Of(Obstacle::OtherType)),
+        }
+    }
+
+    /// The record that one says as the fourteen have them, or None where it says nothing there; else what is in the way
+    /// of it. The records of a module are taken in their order.
+    #[tactic(auto, unfolding(crate::specs::Plain::plain, omf_record::specs::View::view))]
+    pub fn take(&mut self, given: Given<'a, A>) -> Result<Option<Record<'a, A>>, PlainFault>
+        requires { given_len (given_view given) ≤ 65534 }
+        ensures taking { taking_of self.new ≡ taking_of self.old }
+        ensures plain { Answers (option_map view) result
+            (plain.plain (taking_of self.old) (seen_by self.old) (given_view given.entry)) }
+        ensures seen { OnOk result (seen_by self.new
+            ≡ seen.seen_after (taking_of self.old).keep_debug (seen_by self.old) (given_view given.entry)) }
+    {
+        match given {
+            Given::Narrow(record) => self.take_record(record),
+            Given::Wide(said) => self.take_said(said),
+            Given::Later(said) => self.plain_later(said),
+        }
+    }
+}
