@@ -1,4 +1,4 @@
-"""Changes of the rules of `doslib list` in the model, as changes.py has them of the rules of `omf`."""
+"""Changes of the rules of `doslib` in the models, as changes.py has them of the rules of `omf`."""
 
 from changes import Change
 
@@ -118,4 +118,35 @@ PRINTED = [
     Change("the status is that of the last fault", FILE, "answer.status = max(answer.status, 1)",
            "answer.status = 1"),
 ]
-CHANGES = [*FILES, *NAMES, *PRINTED]
+SHOW = "showing.py"
+RECORDS = [
+    Change("an index counts from 0", SHOW, 'return quoted(names[index - 1]) if 0 < index <= len(names) else f"#{index}"',
+           'return quoted(names[index]) if 0 <= index < len(names) else f"#{index}"'),
+    Change("communal variables are no externals", SHOW,
+           "        self.later.append(lambda: self.names.externals.extend(name for name, _ in found))\n"
+           '        return "", [line',
+           '        return "", [line'),
+    Change("externals of CEXTDEF have no index", SHOW, "        self.later.append(lambda: self.names.externals.extend(own))\n",
+           ""),
+    Change("a row has 8 bytes", SHOW, "ROOM = 16", "ROOM = 8"),
+    Change("data stands behind places from 0", SHOW, "rows(offset, content)\n\n    def block", "rows(0, content)\n\n    def block"),
+    Change("a group of no index is told of", SHOW, 'if index else ""', 'if index >= 0 else ""'),
+    Change("a frame stands behind each segment", SHOW, "        if segment == 0:\n            return f", "        if False:\n            return f"),
+    Change("a wrong body is no fault", SHOW, "*unknown[1:]], True", "*unknown[1:]], False"),
+    Change("a wrong body is wrong from its end", SHOW, "        at = place_of_fault(names, record.kind, content)\n",
+           "        at = len(content)\n"),
+    Change("an offset of more than 16 bits is told of", SHOW, "    if is_above:\n        return unknown, False\n", ""),
+    Change("a number above 16 bits hides no fault", SHOW,
+           "        if place_of_fault(names, record.kind, content, is_narrow=True) < at:\n            return unknown, False\n",
+           ""),
+    Change("a displacement of 32 bits has 16", SHOW, "self.reference(body, width)}", "self.reference(body, 2)}"),
+    Change("bit 6 of a fix-up says that it is self-relative", SHOW,
+           '"segment-relative" if first & 0x40 else "self-relative"', '"self-relative" if first & 0x40 else "segment-relative"'),
+    Change("a start needs no bit 0", SHOW, "refuse_unless(not first & 0x40 or first & 1)", "refuse_unless(True)"),
+    Change("comments of dates are bytes", SHOW, "0xDB, 0xDC, 0xDF, 0xFF)\nALIGN", "0xDB, 0xFF)\nALIGN"),
+    Change("blocks of LIDATA stand side by side", SHOW, "(each[1:] for each in found)", '["".join(found)[1:]]'),
+    Change("names of one module stay for the next", SHOW,
+           "            names = Names()\n            for record", "            names = answer.__dict__.setdefault(\"names\", Names())\n            for record"),
+    Change("faults of bodies stand last", SHOW, "[*wrong, *faults]", "[*faults, *wrong]"),
+]
+CHANGES = [*RECORDS, *FILES, *NAMES, *PRINTED]

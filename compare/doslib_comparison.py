@@ -1,4 +1,4 @@
-"""Runs `doslib list` and its model on the same files, and tells where they differ."""
+"""Runs `doslib list` and `doslib show` and their models on the same files, and tells where they differ."""
 
 import os
 import random
@@ -7,7 +7,7 @@ import subprocess
 import comparison
 from comparison import expect
 from generator import listings
-from model import faults, listing
+from model import faults, listing, showing
 
 KINDS = (listing.MODULE, listing.LIBRARY, listing.ARCHIVE, "unread", "output")
 no_counts, lines_of_limits = comparison.no_counts, comparison.lines_of_limits
@@ -22,12 +22,13 @@ class Comparison(comparison.Comparison):
         """One run over the files of a seed; raises a Difference."""
         chance = random.Random(f"{seed} of doslib")
         files = [(self.path_of(path), content) for path, content in listings.files(chance, seed)]
-        answer, output = comparison.asked(listing.list_files, files), None
-        if seed % FAILS_EVERY == 0 and answer.output:
-            answer, output = listing.at_failing_output(answer), comparison.FULL_DEVICE
         self.put(files)
-        self.counts.ends.update(answer.ends)
-        self.run([path for path, _ in files], answer, output)
+        for command, model in (("list", listing.list_files), ("show", showing.show_files)):
+            answer, output = comparison.asked(model, files), None
+            if seed % FAILS_EVERY == 0 and answer.output:
+                answer, output = listing.at_failing_output(answer), comparison.FULL_DEVICE
+            self.counts.ends.update(answer.ends)
+            self.run([command, *(path for path, _ in files)], answer, output)
 
     def path_of(self, path):
         """What a path is called here, which may be a system that hasn't all names of files."""
@@ -42,12 +43,12 @@ class Comparison(comparison.Comparison):
             elif content != listings.NO_FILE:
                 (self.folder / path).write_bytes(content)
 
-    def run(self, paths, answer, output):
-        """Lists files and compares the status and both streams."""
+    def run(self, words, answer, output):
+        """Does what the words ask for, and compares the status and both streams."""
         environment = {**os.environ, "LC_ALL": "C.UTF-8"}
         with open(output or os.devnull, "wb") as stdout:
             done = subprocess.run(
-                [self.program, "list", *paths], cwd=self.folder, env=environment, stdin=subprocess.DEVNULL,
+                [self.program, *words], cwd=self.folder, env=environment, stdin=subprocess.DEVNULL,
                 stdout=stdout if output else subprocess.PIPE, stderr=subprocess.PIPE)
         expect("the faults", done.stderr, answer.error)
         expect("the status", [done.returncode], [answer.status])

@@ -1,9 +1,9 @@
-"""Answers of `doslib list` that were written out by hand, from docs/DOSLIB.md and docs/FORMATS.md alone.
+"""Answers of `doslib list` and `doslib show` that were written out by hand, from docs/DOSLIB.md and docs/FORMATS.md alone.
 
 The model must give them.
 """
 
-from model import listing
+from model import listing, showing
 
 A = "80 0300 0141 3B  8A 0200 00 74"
 PAGE_16 = "F0 0D00" + "AA" * 13
@@ -32,6 +32,31 @@ FILES = [
     ("an archive", b"!<arch>\n" + bytes_of_header(b"a.o/", 11) + bytes.fromhex(A) + b"\n" + b"x",
      ['archive "F" members 1', '  00000044      11 "a.o"'], ["46 Header at place 80"]),
 ]
+# the example of docs/DOSLIB.md
+COUNT = (
+    "80 0B00 09 636F756E742E61736D 00  96 0D00 00 05 5F54455854 04 434F4445 00  98 0700 28 0500 02 03 01 00"
+    "  90 0D00 00 01 06 5F636F756E74 0000 00 00  8C 0800 05 5F6E657874 00 00  A0 0900 01 0000 9A00000000 00"
+    "  9C 0500 CC 01 56 01 00  88 0600 00 9F 454D55 00  8A 0200 00 00")
+SHOWN = """\
+module "COUNT.OBJ" members 1
+  00000000     101 "count.asm"
+    00000000 THEADR "count.asm"
+    0000000E LNAMES
+      ""
+      "_TEXT"
+      "CODE"
+    0000001E SEGDEF "_TEXT" class "CODE" overlay "" byte public length 5
+    00000028 PUBDEF segment "_TEXT"
+      "_count" offset 0000 type 0
+    00000038 EXTDEF
+      "_next" type 0
+    00000043 LEDATA segment "_TEXT" offset 0000 bytes 5
+      0000 9A 00 00 00 00
+    0000004F FIXUPP
+      at 001 segment-relative pointer frame target target external "_next"
+    00000057 COMENT type 00 class 9F default library "EMU"
+    00000060 MODEND
+"""
 NAMES = ['offers "q"', 'communal "v"', 'wants "y"', 'library "LIB"']
 
 
@@ -44,5 +69,10 @@ def check():
         assert answer.status == (1 if errors else 0), title
     found = listing.list_files([("F", bytes.fromhex(NAMED))]).output.decode().splitlines()[2:]
     assert [line.strip() for line in found] == ['offers "p"', *NAMES], found
+    shown = showing.show_files([("COUNT.OBJ", bytes.fromhex(COUNT))])
+    assert (shown.output.decode(), shown.error, shown.status) == (SHOWN, b"", 0), shown.output.decode()
+    wrong = showing.show_files([("F", bytes.fromhex("90 0600 00 01 06 5F 63 00  8A 0200 00 00"))])
+    assert wrong.output.decode().splitlines()[2:4] == ["    00000000 PUBDEF wrong at byte 5 of 5", "      0000 00 01 06 5F 63"]
+    assert (wrong.status, wrong.error) == (1, b"doslib: F: 6 Body at place 0\n")
     both = listing.list_files([("F", bytes.fromhex(A[:16])), ("G", "no such file")])
     assert (both.status, both.error.decode().splitlines()[1:]) == (3, ["doslib: G: 1 Device: no such file"])

@@ -1,4 +1,4 @@
-"""Files for `doslib list`: those of jobs of `doslink`, and modules whose records say names in odd ways."""
+"""Files for `doslib`: those of jobs of `doslink`, and modules whose records say names in odd ways."""
 
 from generator import jobs, libraries
 from generator.spelling import reclosed, with_other_body
@@ -65,9 +65,80 @@ class ModuleMaker:
             text = self.name()
         return bytes([self.random.choice([0, 0x80]), kind]) + text
 
+    def any_number(self, width):
+        """A number of so many bytes, which mostly has 16 bits."""
+        most = 2 if not self.one_in(8) else width
+        return bytes(self.random.choice([0, 0, 1, 0x12, 0xFF]) for _ in range(most)) + bytes(width - most)
+
+    def segment(self, width):
+        first = self.random.choice([0, 1, 2, 3, 4, 5, 5, 6]) << 5 | self.random.choice([0, 2, 2, 4, 5, 6, 7, 1]) << 2
+        first |= self.random.choice([0, 0, 0, 1, 2, 3])
+        place = self.any_number(3) if first < 32 else b""
+        return bytes([first]) + place + self.any_number(width) + self.index() + self.index() + self.index()
+
+    def group(self):
+        return self.index() + self.some(lambda: (b"\xFF" if not self.one_in(12) else b"\xFE") + self.index())
+
+    def reference(self, width):
+        random = self.random
+        first = random.choice([0, 1, 2, 4, 5, 5, 8, 9, 0xB, 3]) << 4 | random.choice([0, 1, 2, 4, 5, 6, 8, 0xD, 3])
+        frame = self.index() if first >> 4 < 3 else b""
+        return bytes([first]) + frame + (b"" if first & 8 else self.index()) + (b"" if first & 4 else self.any_number(width))
+
+    def subrecord(self, width):
+        random = self.random
+        if self.one_in(3):
+            first = random.randrange(128)
+            if not self.one_in(8):
+                first &= 0x73 if first & 0x40 else 0x7B
+            return bytes([first]) + (self.index() if first & 0x50 != 0x50 else b"")
+        location = random.choice([0, 1, 1, 2, 3, 5, 9, 13, 4])
+        first = 0x80 | random.choice([0, 0x40]) | location << 2 | random.randrange(4)
+        return bytes([first, random.randrange(256)]) + self.reference(width)
+
+    def module_start(self, width):
+        first = self.random.choice([0, 0x80, 0x41, 0xC1, 0x40])
+        return bytes([first]) + (self.reference(width) if first & 0x40 else b"")
+
+    def block(self, width, deep=2):
+        random = self.random
+        repeat = self.any_number(width)
+        if deep and self.one_in(3):
+            count = random.choice([1, 2, 2, 3])
+            return repeat + bytes([count, 0]) + b"".join(self.block(width, deep - 1) for _ in range(count))
+        return repeat + b"\0\0" + self.name()
+
+    def placed_data(self, width):
+        front = self.index() + self.any_number(width)
+        return front + bytes(self.random.randrange(256) for _ in range(self.random.choice([0, 1, 15, 16, 17, 40])))
+
+    def record_of_one(self):
+        """A record of which `list` says nothing, and `show` what it says."""
+        random = self.random
+        wide = random.randrange(2)
+        width = 4 if wide else 2
+        patch = lambda: self.any_number(width) + self.any_number(width)  # noqa: E731
+        location = lambda: bytes([random.choice([0, 1, 2, 2, 3])])  # noqa: E731
+        return random.choice([
+            lambda: (0x98 + wide, self.segment(width)), lambda: (0x98, self.segment(2)), lambda: (0x9A, self.group()),
+            lambda: (0x9C + wide, self.some(lambda: self.subrecord(width), 5)),
+            lambda: (0x9C, self.some(lambda: self.subrecord(2), 5)),
+            lambda: (0xA0 + wide, self.placed_data(width)), lambda: (0xA2, self.index() + self.any_number(2) + self.some(
+                lambda: self.block(2))), lambda: (0xA3, self.index() + self.any_number(4) + self.some(
+                    lambda: self.block(4))),
+            lambda: (0x94 + wide, self.index(3) + self.index(3) + self.some(
+                lambda: self.any_number(2) + self.any_number(width))),
+            lambda: (0xC4 + wide, bytes([random.choice([0, 1, 1, 2])]) + self.index() + self.some(
+                lambda: self.any_number(2) + self.any_number(width))),
+            lambda: (0xB2 + wide, self.index() + location() + self.some(patch)),
+            lambda: (0xC8 + wide, location() + self.index() + self.some(patch)),
+            lambda: (0xCC, self.name()), lambda: (0xCE, self.any_number(2) + self.name()),
+            lambda: (0xB6 + wide, self.publics(width)), lambda: (random.choice([0x6E, 0x8E, 0x8F, 0xAA, 0xD0]), self.name()),
+            lambda: (0x88, bytes([0, random.choice([0x9D, 0xA0, 0xA2, 0xDA, 0xDF, 0xE9, 0xFE, 0xFF])]) + self.name()[1:])])()
+
     def record(self):
         random = self.random
-        kind, body = random.choice([
+        kind, body = self.record_of_one() if self.one_in(3) else random.choice([
             lambda: (0x8C, self.some(self.named_index)), lambda: (0x8C, self.some(self.named_index)),
             lambda: (0xBC, self.some(lambda: self.index() + self.index())),
             lambda: (random.choice([0xB4, 0xB5]), self.some(self.named_index)),
@@ -118,7 +189,8 @@ class ModuleMaker:
             content += self.defaults()
         if self.one_in(6):
             content += b"".join(self.librarian_name() for _ in range(random.choice([1, 2])))
-        content += reclosed(random, random.choice([0x8A, 0x8A, 0x8B]), b"\0")
+        wide = random.choice([0, 0, 1])
+        content += reclosed(random, 0x8A + wide, self.module_start(4 if wide else 2) if self.one_in(2) else b"\0")
         return content
 
 
@@ -136,6 +208,17 @@ def member(random):
     elif random.random() < 0.1:
         content = random.choice([libraries.foreign(random), content + libraries.any_bytes(random, 5)])
     return content
+
+
+def with_blanks_first(random, content):
+    """An archive of which one size, of ten bytes, begins with a blank; any other file as it is."""
+    if not isinstance(content, bytes):
+        return content
+    places = [at for at in range(18, len(content) - 1) if content[at:at + 2] == b"`\n" and content[at - 1:at] == b" "]
+    if not places:
+        return content
+    at = random.choice(places)
+    return content[:at - 10] + b" " + content[at - 10:at - 1] + content[at:]
 
 
 def odd_file(random):
@@ -172,4 +255,7 @@ def files(random, seed):
     if not contents or random.random() < 0.05:
         contents.insert(random.randrange(len(contents) + 1), random.choice([NO_FILE, FOLDER]))
     named = list(zip(random.sample(PATHS, len(contents)), contents))
-    return [*named, named[0]] if random.random() < 0.05 else named
+    is_told_twice = random.random() < 0.05
+    if random.random() < 0.1:
+        named = [(path, with_blanks_first(random, content)) for path, content in named]
+    return [*named, named[0]] if is_told_twice else named

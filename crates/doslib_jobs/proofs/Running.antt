@@ -1,6 +1,7 @@
 -- Files that were told of one after the other.
-use Rattle.std.proofs.Common.{◌≡◌, ℕ, ◌+◌, ◌<◌, ◌≤◌, List, [], ◌∷◌, ◌++◌, length, map, take, get_or, max, refl, sym, ap, ap₂}
-use Rattle.std.proofs.Common.{subst, ◌∙◌, append-nil, arith, rules, IfOk, Some, Ok, Err, Result, Bor}
+use Rattle.std.proofs.Common.{◌≡◌, ℕ, ◌+◌, ◌<◌, ◌≤◌, List, [], ◌∷◌, ◌++◌, length, map, take, get_or, max, refl, sym, ap}
+use Rattle.std.proofs.Common.{ap₂}
+use Rattle.std.proofs.Common.{subst, ◌∙◌, append-nil, arith, rules, Bor}
 use Rattle.std.specs.declared.option.Option.{Option}
 use Rattle.std.specs.Io.KnownBytes.{Appends, Keeps}
 use Rattle.std.specs.List.{flat_map}
@@ -12,15 +13,13 @@ use Rattle.omf_library.specs.declared.fault.FormatFault.{FormatFault}
 use Rattle.omf_library.specs.declared.files.FileKind.{FileKind}
 use Rattle.omf_library.specs.Files.{file_kind}
 use Rattle.omf_library.specs.Members.{PlainMember}
-use Rattle.doslink_files.specs.Files.{IsTold}
-use Rattle.doslink_files.specs.declared.fault.ReadFault.{ReadFault}
+use Rattle.doslib_show.specs.Show.{IsShow, Shown}
 use Rattle.doslib_text.specs.Faults.{faults_text, list_faults}
 use Rattle.doslib_text.specs.Listing.{list_text, listing}
 use Rattle.doslib_text.specs.Parts.{fault_in, members_in, whole_members}
 use Rattle.doslib_words.specs.Words.{texts}
 use Rattle.doslib_jobs.specs.declared.outcome.Outcome.{Outcome}
-use Rattle.doslib_jobs.specs.Jobs.{IsRead, Ran, Read, greatest, read_faults}
-use Rattle.doslib_jobs.specs.Jobs.{read_status, read_text}
+use Rattle.doslib_jobs.specs.Jobs.{IsRead, Ran, Read, greatest, read_status}
 use Rattle.doslib_jobs.specs.inside.Running.{Adds}
 
 greatest-push : (ns : List ℕ) (n : ℕ) → greatest (ns ++ n ∷ []) ≡ max (greatest ns) n
@@ -31,9 +30,10 @@ flat_map-push : {X : Type 0} (f : X → List ℕ) (xs : List X) (x : X) → flat
 flat_map-push f xs x = flat_map-append f xs (x ∷ []) ∙ ap (λ l. flat_map f xs ++ l) (append-nil (f x))
 
 -- no file was told of
-pub ran-none : (told : List ℕ → Option (List ℕ)) (old : Option (List ℕ)) (lines : List ℕ) (status : ℕ)
-    → lines ≡ [] → status ≡ 0 → Ran told [] old old lines status
-ran-none told old lines status none zero = record {
+pub ran-none : (tells : List ℕ → List ℕ → List ℕ → List ℕ → Type 0) (told : List ℕ → Option (List ℕ))
+    (old : Option (List ℕ)) (lines : List ℕ) (status : ℕ) → lines ≡ [] → status ≡ 0
+    → Ran tells told [] old old lines status
+ran-none tells told old lines status none zero = record {
   reads = [];
   these = refl;
   are = search rules;
@@ -43,67 +43,45 @@ ran-none told old lines status none zero = record {
 }
 
 -- one file more
-pub ran-more : {A : Type 0} (told : List ℕ → Option (List ℕ)) (files : List (Bor (List ℕ))) (i : ℕ)
-    (d : Bor (List ℕ)) (old mid new : Option (List ℕ)) (before after : Outcome A) → i < length files
-    → Ran told (texts (take i files)) old mid before.lines.items before.status
-    → Adds told (get_or files i d).now mid new before after
-    → Ran told (texts (take (i + 1) files)) old new after.lines.items after.status
-ran-more told files i d old mid new before after h ran adds =
+pub ran-more : {A : Type 0} (tells : List ℕ → List ℕ → List ℕ → List ℕ → Type 0) (told : List ℕ → Option (List ℕ))
+    (files : List (Bor (List ℕ))) (i : ℕ) (d : Bor (List ℕ)) (old mid new : Option (List ℕ)) (before after : Outcome A)
+    → i < length files → Ran tells told (texts (take i files)) old mid before.lines.items before.status
+    → Adds tells told (get_or files i d).now mid new before after
+    → Ran tells told (texts (take (i + 1) files)) old new after.lines.items after.status
+ran-more tells told files i d old mid new before after h ran adds =
     let path = (get_or files i d).now in
-    let one : Read = record { path = path; bytes = adds.bytes } in
+    let one : Read = record { path = path; bytes = adds.bytes; text = adds.text; faults = adds.faults } in
     record {
       reads = ran.reads ++ one ∷ [];
       these =
           map-append (λ (r : Read). r.path) ran.reads (one ∷ []) ∙ ap (λ l. l ++ path ∷ []) ran.these
           ∙ sym (map-append (λ (x : Bor (List ℕ)). x.now) (take i files) (get_or files i d ∷ []))
           ∙ ap texts (sym (take_more files i d h));
-      are = All-push (IsRead told) ran.reads one ran.are adds.is;
+      are = All-push (IsRead tells told) ran.reads one ran.are adds.is;
       text =
-          subst (Appends old new) (sym (flat_map-push read_text ran.reads one))
-          (Appends-trans old mid new (flat_map read_text ran.reads) (read_text one) ran.text adds.text);
+          subst (Appends old new) (sym (flat_map-push (λ (r : Read). r.text) ran.reads one))
+          (Appends-trans old mid new (flat_map (λ (r : Read). r.text) ran.reads) adds.text ran.text adds.appended);
       faults =
-          adds.faults ∙ ap (λ l. l ++ read_faults one) ran.faults ∙ sym (flat_map-push read_faults ran.reads one);
+          adds.lines ∙ ap (λ l. l ++ adds.faults) ran.faults
+          ∙ sym (flat_map-push (λ (r : Read). r.faults) ran.reads one);
       greatest_is =
           adds.greatest_is ∙ ap (λ n. max n (read_status one)) ran.greatest_is
           ∙ sym (greatest-push (map read_status ran.reads) (read_status one))
           ∙ ap greatest (sym (map-append read_status ran.reads (one ∷ [])));
     }
 
--- all of them
-pub ran-all : (told : List ℕ → Option (List ℕ)) (files : List (Bor (List ℕ))) (i : ℕ) (old new : Option (List ℕ))
-    (lines : List ℕ) (status : ℕ) → length files ≤ i → Ran told (texts (take i files)) old new lines status
-    → Ran told (texts files) old new lines status
-ran-all told files i old new lines status h ran =
-    subst (λ l. Ran told (texts l) old new lines status) (take_all i files h) ran
-
--- what was held back was handed on
-pub ran-kept : (told : List ℕ → Option (List ℕ)) (paths : List (List ℕ)) (old mid new : Option (List ℕ))
-    (lines : List ℕ) (status : ℕ) → Ran told paths old mid lines status → Keeps mid new
-    → Ran told paths old new lines status
-ran-kept told paths old mid new lines status ran kept = record {
+-- all of them, and what was held back was handed on
+pub ran-all : (tells : List ℕ → List ℕ → List ℕ → List ℕ → Type 0) (told : List ℕ → Option (List ℕ))
+    (files : List (Bor (List ℕ))) (i : ℕ) (old mid new : Option (List ℕ)) (lines : List ℕ) (status : ℕ)
+    → length files ≤ i → Ran tells told (texts (take i files)) old mid lines status → Keeps mid new
+    → Ran tells told (texts files) old new lines status
+ran-all tells told files i old mid new lines status h ran kept = record {
   reads = ran.reads;
-  these = ran.these;
+  these = ran.these ∙ ap texts (take_all i files h);
   are = ran.are;
-  text = Appends-kept old mid new (flat_map read_text ran.reads) ran.text kept;
+  text = Appends-kept old mid new (flat_map (λ (r : Read). r.text) ran.reads) ran.text kept;
   faults = ran.faults;
   greatest_is = ran.greatest_is;
-}
-
-told-of : (told : Option (List ℕ)) (bytes : List ℕ) (r : Result (List ℕ) ReadFault) → IfOk r (IsTold (Some bytes))
-    → IsTold told bytes → IfOk r (IsTold told)
-told-of told bytes (Ok x) is h = subst (IsTold told) (sym is) h
-told-of told bytes (Err e) is h = tt
-
--- what was added of these bytes is what was added of the file
-pub adds-told : {A : Type 0} (told : List ℕ → Option (List ℕ)) (path bytes : List ℕ) (old new : Option (List ℕ))
-    (before after : Outcome A) → IsTold (told path) bytes → Adds (λ p. Some bytes) path old new before after
-    → Adds told path old new before after
-adds-told told path bytes old new before after h adds = record {
-  bytes = adds.bytes;
-  is = told-of (told path) bytes adds.bytes adds.is h;
-  text = adds.text;
-  faults = adds.faults;
-  greatest_is = adds.greatest_is;
 }
 
 -- what `list` prints of a file, by what was read of it
@@ -112,6 +90,14 @@ pub listed : (path file : List ℕ) (kind : FileKind) (members : List PlainMembe
     → text ≡ list_text path file
 unfolding list_text
 listed path file kind members text k m t = t ∙ ap₂ (λ k' m'. listing k' path m') k m
+
+-- what `show` prints of it
+pub shown : (path file : List ℕ) (kind : FileKind) (members : List PlainMember) (text faults : List ℕ)
+    → kind ≡ file_kind file → members ≡ whole_members file → Shown kind path members text faults
+    → IsShow path file text faults
+unfolding IsShow
+shown path file kind members text faults k m s =
+    subst (λ k'. Shown k' path (whole_members file) text faults) k (subst (λ m'. Shown kind path m' text faults) m s)
 
 -- the lines of its faults
 pub faulted : (path file : List ℕ) (members : List PlainMember) (fault : Option (ℕ × FormatFault))

@@ -1,5 +1,5 @@
 -- How a run ends: what its job came to, the lines that say so, and the exit status.
-use Rattle.std.specs.Prelude.{◌≡◌, ◌⊎◌, ℕ, List, [], ◌∷◌, All, IfOk, true, map}
+use Rattle.std.specs.Prelude.{◌≡◌, ◌⊎◌, ℕ, List, [], ◌∷◌, ◌++◌, All, IfOk, true, map}
 use Rattle.std.specs.Prelude.{max, codes, string_bytes, Ok, Err}
 use Rattle.std.specs.declared.option.Option.{Option}
 use Rattle.std.specs.declared.result.Result.{Result}
@@ -12,49 +12,52 @@ use Rattle.omf_frame.specs.declared.device.IoFault.{IoFault}
 use Rattle.omf_frame.specs.Device.{Writes}
 use Rattle.doslink_files.specs.Files.{IsTold}
 use Rattle.doslink_files.specs.declared.fault.ReadFault.{ReadFault}
+use Rattle.doslib_show.specs.Show.{IsShow}
 use Rattle.doslib_text.specs.Faults.{list_faults}
 use Rattle.doslib_text.specs.Listing.{list_text}
 use Rattle.doslib_jobs.specs.declared.fault.Stopped.{Stopped}
 use Rattle.doslib_jobs.specs.declared.fault.Stopped.TheVariants as stopped
 use Rattle.doslib_words.specs.declared.words.Job.{Job}
-use Rattle.doslib_words.specs.declared.words.Job.TheVariants.{List as ListJob}
+use Rattle.doslib_words.specs.declared.words.Job.TheVariants.{List as ListJob, Show as ShowJob}
 use Rattle.doslib_jobs.specs.Reading.{faults_status, unread_line}
 use Rattle.doslib_words.specs.Words.{IsJobFor, doslib_command, texts}
 
 -- ---- files
 
--- a file of a job: its path, and its bytes, or why it isn't read
+-- what `list` tells of a file: what is printed, and the lines of its faults
+abbrev pub Lists : (path file text faults : List ℕ) → Type 0
+Lists path file text faults = (text ≡ list_text path file) × (faults ≡ list_faults path file)
+
+-- what `show` tells of it: the faults of its records' bodies stand before the others
+abbrev pub Shows : (path file text faults : List ℕ) → Type 0
+Shows path file text faults =
+    (bodies : List ℕ) × IsShow path file text bodies × (faults ≡ bodies ++ list_faults path file)
+
+-- a file of a job: its path, its bytes, or why it isn't read, what is printed of it, and the lines of its faults
 pub record Read : Type 0 where
   pub path : List ℕ
   pub bytes : Result (List ℕ) ReadFault
+  pub text : List ℕ
+  pub faults : List ℕ
 
--- these are its bytes, where those of the files by their paths are told
-abbrev pub IsRead : (told : List ℕ → Option (List ℕ)) → Read → Type 0
-IsRead told r = IfOk r.bytes (IsTold (told r.path))
+-- this is told of a file: what a command tells, or why it isn't read
+abbrev pub IsToldOf : (tells : List ℕ → List ℕ → List ℕ → List ℕ → Type 0) → (path : List ℕ)
+    → Result (List ℕ) ReadFault → (text faults : List ℕ) → Type 0
+IsToldOf tells path (Ok bytes) text faults = tells path bytes text faults
+IsToldOf tells path (Err fault) text faults = (text ≡ []) × (faults ≡ unread_line path fault)
 
--- what `list` prints of a file
-abbrev pub bytes_text : (path : List ℕ) → Result (List ℕ) ReadFault → List ℕ
-bytes_text path (Ok bytes) = list_text path bytes
-bytes_text path (Err fault) = []
+-- these are its bytes, where those of the files by their paths are told, and this is told of them
+abbrev pub IsRead : (tells : List ℕ → List ℕ → List ℕ → List ℕ → Type 0) → (told : List ℕ → Option (List ℕ)) → Read
+    → Type 0
+IsRead tells told r = IfOk r.bytes (IsTold (told r.path)) × IsToldOf tells r.path r.bytes r.text r.faults
 
-abbrev pub read_text : Read → List ℕ
-read_text r = bytes_text r.path r.bytes
-
--- the lines of its faults
-abbrev pub bytes_faults : (path : List ℕ) → Result (List ℕ) ReadFault → List ℕ
-bytes_faults path (Ok bytes) = list_faults path bytes
-bytes_faults path (Err fault) = unread_line path fault
-
-abbrev pub read_faults : Read → List ℕ
-read_faults r = bytes_faults r.path r.bytes
-
--- its status: 0, 1 where it is at fault, and 3 where it isn't read
-abbrev pub bytes_status : (path : List ℕ) → Result (List ℕ) ReadFault → ℕ
-bytes_status path (Ok bytes) = faults_status (list_faults path bytes)
-bytes_status path (Err fault) = 3
+-- the status of a file: 0, 1 where it is at fault, and 3 where it isn't read
+abbrev pub file_status : Result (List ℕ) ReadFault → (faults : List ℕ) → ℕ
+file_status (Ok bytes) faults = faults_status faults
+file_status (Err fault) faults = 3
 
 abbrev pub read_status : Read → ℕ
-read_status r = bytes_status r.path r.bytes
+read_status r = file_status r.bytes r.faults
 
 -- the greatest of some numbers, and 0 of none
 abbrev pub greatest : List ℕ → ℕ
@@ -63,22 +66,24 @@ greatest (n ∷ ns) = max n (greatest ns)
 
 -- ---- jobs
 
--- The files at these paths were read, one for each: what is printed of them was appended, these are the lines of their
+-- The files at these paths were read, one for each: what is told of them was appended, these are the lines of their
 -- faults, and this is the greatest status.
-pub record Ran (told : List ℕ → Option (List ℕ)) (paths : List (List ℕ)) (old new : Option (List ℕ)) (lines : List ℕ)
-    (status : ℕ) : Type 0 where
+pub record Ran (tells : List ℕ → List ℕ → List ℕ → List ℕ → Type 0) (told : List ℕ → Option (List ℕ))
+    (paths : List (List ℕ)) (old new : Option (List ℕ)) (lines : List ℕ) (status : ℕ) : Type 0 where
   pub reads : List Read
   pub these : map (λ r. r.path) reads ≡ paths
-  pub are : All (IsRead told) reads
-  pub text : Appends old new (flat_map read_text reads)
-  pub faults : lines ≡ flat_map read_faults reads
+  pub are : All (IsRead tells told) reads
+  pub text : Appends old new (flat_map (λ r. r.text) reads)
+  pub faults : lines ≡ flat_map (λ r. r.faults) reads
   pub greatest_is : status ≡ greatest (map read_status reads)
 
 -- What a job comes to, unless it stops. `told` are the bytes of files by their paths, where they are told.
 abbrev pub Answers : (told : Text → Option (List ℕ)) → Job → (old new : Option (List ℕ))
     → Result (List ℕ × ℕ) Stopped → Type 0
 Answers told (ListJob files) old new answer =
-    IfOk answer (λ o. Ran told (texts files.items) old new o.0 o.1)
+    IfOk answer (λ o. Ran Lists told (texts files.items) old new o.0 o.1)
+Answers told (ShowJob files) old new answer =
+    IfOk answer (λ o. Ran Shows told (texts files.items) old new o.0 o.1)
 
 -- the text was written, unless the run stopped
 abbrev pub Prints : Text → (old new : Option (List ℕ)) → Result (List ℕ × ℕ) Stopped → Type 0

@@ -8,8 +8,8 @@ ghost use Rattle.doslib_jobs.specs.inside.Running.{outcome_said};
 ghost use Rattle.doslib_words.specs.Words.{texts};
 
 use crate::fault::Stopped;
-use crate::listing::list_files;
 use crate::outcome::{FAILED, Outcome};
+use crate::telling::{Telling, tell_files};
 use command_line::WordsFault;
 use doslib_words::{Job, parse_words};
 use omf_files::{BufferedSink, World};
@@ -78,7 +78,7 @@ pub fn run_job<W: World + Copy, O: Write + Drop, E: Sink, A: Allocator + Copy>(
     finish(&answer, errors)
 }
 
-/// Does a job.
+/// Does a job. Each word of `Job` has its case here.
 fn answer_job<W: World + Copy, O: Write + Drop, A: Allocator + Copy>(
     alloc: A,
     world: W,
@@ -90,11 +90,8 @@ fn answer_job<W: World + Copy, O: Write + Drop, A: Allocator + Copy>(
         (outcome_said result) }
 {
     match job {
-        Job::List { files } => {
-            let outcome = list_files(alloc, world, files, output)?;
-            output.flush()?;
-            Ok(outcome)
-        }
+        Job::List { files } => tell_files(alloc, world, Telling::Members, files, output),
+        Job::Show { files } => tell_files(alloc, world, Telling::Records, files, output),
     }
 }
 

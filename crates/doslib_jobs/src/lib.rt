@@ -4,9 +4,9 @@
 
 mod fault;
 mod jobs;
-mod listing;
 mod outcome;
 mod reading;
+mod telling;
 
 pub use fault::Stopped;
 pub use jobs::{out_of_memory, run_job, run_words, wrong_words};

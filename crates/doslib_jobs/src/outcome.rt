@@ -1,14 +1,10 @@
 //! What a job comes to.
 
-ghost use Rattle.std.specs.Prelude.{◌≡◌, ◌++◌, [], OnOk, map, max};
-ghost use Rattle.omf_library.specs.Members.{plain_member};
-ghost use Rattle.doslib_text.specs.Faults.{faults_text};
+ghost use Rattle.std.specs.Prelude.{◌≡◌, ◌++◌, [], OnOk, max};
 ghost use Rattle.doslib_jobs.specs.Reading.{faults_status, unread_line};
 
 use crate::reading::push_unread;
-use doslib_text::push_faults;
 use doslink_files::ReadFault;
-use omf_library::{FormatFault, Member};
 use std::alloc::{AllocError, Allocator};
 
 /// The exit status where a file is at fault.
@@ -48,21 +44,13 @@ impl<A: Allocator + Copy> Outcome<A> {
         }
     }
 
-    /// Adds the faults of a file at a path, by its members and its own.
-    pub(crate) fn add_faults(
-        &mut self,
-        path: &str,
-        members: &[Member<'_>],
-        fault: Option<(usize, FormatFault)>,
-    ) -> Result<(), AllocError>
-        ensures lines { OnOk result (self.new.lines.items
-            ≡ self.old.lines.items ++ faults_text path.now (map plain_member members.now) fault) }
-        ensures status { OnOk result (self.new.status
-            ≡ max self.old.status (faults_status (faults_text path.now (map plain_member members.now) fault))) }
+    /// Adds the lines of the faults of a file.
+    pub(crate) fn add_faults(&mut self, faults: &[u8]) -> Result<(), AllocError>
+        ensures lines { OnOk result (self.new.lines.items ≡ self.old.lines.items ++ faults.now) }
+        ensures status { OnOk result (self.new.status ≡ max self.old.status (faults_status faults.now)) }
     {
-        let before = self.lines.len();
-        push_faults(&mut self.lines, path, members, fault)?;
-        if self.lines.len() > before {
+        self.lines.extend_from_slice(faults)?;
+        if !faults.is_empty() {
             self.raise(AT_FAULT);
         }
         Ok(())

@@ -26,7 +26,7 @@ fn format_label(fault: FormatFault) -> (u8, &'static str)
 }
 
 /// Appends the line of a fault with this number and name, behind so many bytes of the file at a path.
-fn push_located<'p, A: Allocator + Copy>(
+pub fn push_located<'p, A: Allocator + Copy>(
     lines: &mut Vec<u8, A>,
     path: &'p str,
     label: (u8, &'p str),

@@ -5,6 +5,6 @@ mod fault;
 mod listing;
 mod parts;
 
-pub use fault::push_faults;
-pub use listing::push_list;
+pub use fault::{push_faults, push_located};
+pub use listing::{push_list, push_member_line, push_title};
 pub use parts::{Whole, module_end};

@@ -23,7 +23,7 @@ fn kind_word(kind: FileKind) -> &'static str
 }
 
 /// Appends the line of a file: what it is, its path, and how many members it has.
-fn push_title<A: Allocator + Copy>(
+pub fn push_title<A: Allocator + Copy>(
     lines: &mut Vec<u8, A>,
     kind: FileKind,
     path: &str,
@@ -67,7 +67,7 @@ fn shown_name<'a>(member: &Member<'a>) -> &'a [u8]
 }
 
 /// Appends the line of a member: its place in the file, how many bytes it has, and its name.
-fn push_member_line<A: Allocator + Copy>(
+pub fn push_member_line<A: Allocator + Copy>(
     lines: &mut Vec<u8, A>,
     member: &Member<'_>,
 ) -> Result<(), AllocError>

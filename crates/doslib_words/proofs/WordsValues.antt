@@ -27,13 +27,21 @@ unfolding IsEntered clap_on_literals
 list_values name rows entered is =
     one_there (is_some (first_of (codes "FILES") rows)) (subst (λ n. IsEntered n rows) is entered)
 
+pub show_values : (name : Text) (rows : List Row) → IsEntered name rows → name ≡ codes "show"
+    → IsSome (first_of (codes "FILES") rows)
+unfolding IsEntered clap_on_literals
+show_values name rows entered is =
+    one_there (is_some (first_of (codes "FILES") rows)) (subst (λ n. IsEntered n rows) is entered)
+
 differs : (x name : Text) → (name ≡ x → ⊥) → bytes_eq x name ≡ false
 differs x name other = false_from_ne_true _ (λ e. other (sym ((bytes_eq-Decides x name).0 e)))
 
-pub one_of_all : (name : Text) (rows : List Row) → IsEntered name rows → (name ≡ codes "list" → ⊥) → ⊥
+pub one_of_all : (name : Text) (rows : List Row) → IsEntered name rows → (name ≡ codes "list" → ⊥)
+    → (name ≡ codes "show" → ⊥) → ⊥
 unfolding IsEntered
-one_of_all name rows entered list =
-    let none : false ≡ true = rw (differs (codes "list") name list) at entered in
+one_of_all name rows entered list show =
+    let none : false ≡ true =
+    rw (differs (codes "list") name list, differs (codes "show") name show) at entered in
     absurd (true≢false (sym none))
 
 -- ---- the command

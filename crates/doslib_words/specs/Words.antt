@@ -5,7 +5,7 @@ use Rattle.clap.specs.Words.{App, Row, Text, all_of, new_app, subcommand_of, tak
 use Rattle.command_line.specs.Rules.{files_rule}
 pub use Rattle.command_line.specs.Values.{texts}
 use Rattle.doslib_words.specs.declared.words.Job.{Job}
-use Rattle.doslib_words.specs.declared.words.Job.TheVariants.{List as ListJob}
+use Rattle.doslib_words.specs.declared.words.Job.TheVariants.{List as ListJob, Show as ShowJob}
 
 -- `NAME FILES..`
 abbrev pub files_command : Text → App
@@ -26,7 +26,9 @@ bare_command =
 
 -- the command `doslib`
 unfoldable pub doslib_command : App
-doslib_command = with_subcommand bare_command (files_command (codes "list")).top
+doslib_command =
+    let listing = with_subcommand bare_command (files_command (codes "list")).top in
+    with_subcommand listing (files_command (codes "show")).top
 
 -- these are the files of a subcommand with these values, one at least
 abbrev pub AreFiles : List Row → List (Bor Text) → Type 0
@@ -35,6 +37,7 @@ AreFiles rows files = (all_of (codes "FILES") rows ≡ Some (texts files)) × (1
 -- `job` is what these values of the subcommand `name` ask for
 abbrev pub IsJobOf : Text → List Row → Job → Type 0
 IsJobOf name rows (ListJob files) = (name ≡ codes "list") × AreFiles rows files.items
+IsJobOf name rows (ShowJob files) = (name ≡ codes "show") × AreFiles rows files.items
 
 -- the command takes the words, and `job` is what its matches give for them
 unfoldable pub IsJobFor : List Text → Job → Type 0

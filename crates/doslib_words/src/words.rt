@@ -26,6 +26,11 @@ pub enum Job<'a> {
         /// The paths of the files, in their order.
         files: Vec<&'a str>,
     },
+    /// Show the records of files.
+    Show {
+        /// The paths of the files, in their order.
+        files: Vec<&'a str>,
+    },
 }
 
 /// The files that are told of, one or more.
@@ -90,7 +95,13 @@ fn doslib_command<'a>(alloc: Global) -> Result<Command<'a>, AllocError>
         "list",
         "Lists the members of files, with the names that each offers and wants",
     );
-    with_command(bare_command(alloc), list)
+    let command = with_command(bare_command(alloc), list);
+    let show = files_command(
+        alloc,
+        "show",
+        "Shows each record of files, with names in place of indexes",
+    );
+    with_command(command, show)
 }
 
 /// The files of a subcommand, by its values.
@@ -114,6 +125,9 @@ fn job_of<'a>(alloc: Global, name: &str, values: &ArgMatches<'a>) -> Result<Job<
 {
     match name {
         "list" => Ok(Job::List {
+            files: files_of(alloc, values)?,
+        }),
+        "show" => Ok(Job::Show {
             files: files_of(alloc, values)?,
         }),
         _ => unreachable!(),

@@ -9,4 +9,4 @@ use Rattle.doslib_words.specs.Words.{files_command}
 unfoldable pub IsEntered : Text → List Row → Type 0
 IsEntered name rows =
     list_any (λ s. bytes_eq s.name name && list_all (λ a. not a.required || is_some (first_of a.id rows)) s.rules)
-    ((files_command (codes "list")).top ∷ []) ≡ true
+    ((files_command (codes "list")).top ∷ (files_command (codes "show")).top ∷ []) ≡ true

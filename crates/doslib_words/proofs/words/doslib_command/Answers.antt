@@ -3,4 +3,6 @@ use Rattle.doslib_words.proofs.words.doslib_command.Goals as goal
 
 pub returns : goal.returns
 unfolding doslib_command
-returns c = c.with_command.ensures.app _ _ c.bare_command.ensures.app c.files_command-list.ensures.app
+returns c =
+    let one = c.with_command-command.ensures.app _ _ c.bare_command.ensures.app c.files_command-list.ensures.app in
+    c.with_command.ensures.app _ _ one c.files_command-show.ensures.app

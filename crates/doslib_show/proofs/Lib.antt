@@ -1,0 +1,4 @@
+pub mod Chains
+pub mod Listing
+pub mod Reading
+pub mod Sixteen

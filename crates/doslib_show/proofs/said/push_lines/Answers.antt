@@ -1,0 +1,8 @@
+use Rattle.doslib_text.proofs.Texts.{then-ok}
+use Rattle.doslib_show.proofs.said.push_lines.Goals as goal
+
+pub returns : goal.returns
+returns g c =
+    then-ok c.push_rows.result c.args.lines.now.items c.push_segment_base.new.lines.items c.push_rows.new.lines.items _
+    _
+    c.in_ok-push_segment_base.ensures c.push_rows.ensures

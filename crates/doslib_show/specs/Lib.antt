@@ -1,0 +1,9 @@
+pub mod Types
+pub mod Names
+pub mod Meaning
+pub mod Rows
+pub mod Data
+pub mod More
+pub mod Said
+pub mod Show
+pub mod inside
