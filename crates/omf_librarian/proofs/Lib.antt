@@ -1,0 +1,15 @@
+pub mod Lists
+pub mod Filling
+pub mod Bytes
+pub mod Blocks
+pub mod Searching
+pub mod Entered
+pub mod Found
+pub mod Stems
+pub mod Members
+pub mod Paging
+pub mod Noting
+pub mod Making
+pub mod Places
+pub mod Reading
+pub mod Changes

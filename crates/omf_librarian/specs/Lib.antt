@@ -1,0 +1,13 @@
+pub mod Hashing
+pub mod Dictionary
+pub mod Entering
+pub mod Modules
+pub mod Naming
+pub mod Pages
+pub mod Writing
+pub mod Library
+pub mod Answers
+pub mod Said
+pub mod Changing
+pub mod ChangeAnswers
+pub mod inside

@@ -1,0 +1,5 @@
+-- How the code sees what it works on: no public contract cites any of it.
+pub mod Views
+pub mod Answers
+pub mod Members
+pub mod Names
