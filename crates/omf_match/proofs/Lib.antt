@@ -1,0 +1,3 @@
+pub mod Laying
+pub mod Texts
+pub mod Inside

@@ -1,0 +1,5 @@
+pub mod Items
+pub mod Places
+pub mod Pattern
+pub mod Matching
+pub mod Told
