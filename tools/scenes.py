@@ -7,8 +7,8 @@ import struct
 from dataclasses import dataclass, field
 
 from making import (
-    ALIAS, COMDAT, COMDEF, GRPDEF, LEDATA, MODEND, SEGDEF, SHORTEST, THEADR, archive, comment, externals, library,
-    member, module, name, names, placed, publics, record, uses)
+    ALIAS, COMDAT, COMDEF, FIXUPP, GRPDEF, LEDATA, MODEND, PUBDEF, SEGDEF, SHORTEST, THEADR, archive, comment, externals,
+    library, member, module, name, names, placed, publics, record, uses)
 
 
 @dataclass(frozen=True)
@@ -133,6 +133,14 @@ TOLD = library(
     filled(
         module(b"printf", publics(b"_printf"), near(b"_errno", 2), externals(b"_puts"), comment(0x9F, b"EMU")), 1024))
 CUT_IN_TWO = TOLD[:1024] + module(b"sprintf", publics(b"_sprintf")[:-1] + b"\1")
+
+# one that doslib shows, and one whose PUBDEF lacks its last byte
+COUNTING = (
+    record(THEADR, name(b"count.asm")) + names(b"", b"_TEXT", b"CODE") + segment(0x28, 5, 2, 3)
+    + record(PUBDEF, b"\0\1\6_count\0\0\0") + externals(b"_next") + data(b"\x9A\0\0\0\0")
+    + record(FIXUPP, b"\xCC\x01\x56\x01") + comment(0x9F, b"EMU") + record(MODEND, b"\0"))
+CUT_PUBLIC = (
+    record(THEADR, name(b"cut.asm")) + record(PUBDEF, b"\0\1\6_count\0\0") + record(MODEND, b"\0"))
 # the table of symbols of an archive: one name, whose member's header stands behind the table's 14 bytes
 OF_ELF = archive(
     member(b"/", struct.pack(">2I", 1, 8 + 60 + 14) + b"print\0"), member(b"print.o/", b"\x7FELF\1\1\1" + bytes(9)))
@@ -289,6 +297,9 @@ SHOWN = {
         'library "CLIB.LIB" members 2': Printed("doslib list CLIB.LIB", {"CLIB.LIB": TOLD}),
         "doslib: CLIB.LIB: 45 Closing at place 1060": Lines((
             Said("doslib list CLIB.LIB", 1, {"CLIB.LIB": CUT_IN_TWO}), Said("doslib list NONE.LIB", 3))),
+        'module "COUNT.OBJ" members 1': Printed("doslib show COUNT.OBJ", {"COUNT.OBJ": COUNTING}),
+        'module "CUT.OBJ" members 1': Printed("doslib show CUT.OBJ", {"CUT.OBJ": CUT_PUBLIC}),
+        "doslib: CUT.OBJ: 6 Body at place 12": Lines((Said("doslib show CUT.OBJ", 1, {"CUT.OBJ": CUT_PUBLIC}),)),
     },
     "docs/LIBRARIES.md": {
         "doslink -o HELLO.EXE HELLO.OBJ -l CLIB.LIB": Run({"HELLO.OBJ": HELLO, "CLIB.LIB": CLIB}),

@@ -1,4 +1,4 @@
-//! What `doslib` prints of files, and its runs over a world in memory.
+//! What `doslib` prints of files and programs, and its runs over a world in memory.
 #![tactic(auto)]
 
 #[cfg(test)]
@@ -8,4 +8,10 @@ mod growths;
 #[cfg(test)]
 mod list;
 #[cfg(test)]
+mod matching;
+#[cfg(test)]
+mod program;
+#[cfg(test)]
 mod runs;
+#[cfg(test)]
+mod show;

@@ -17,7 +17,11 @@ const MODULE: [u8; 22] = [
     0xED, 0x8A, 0x02, 0x00, 0x00, 0x74,
 ];
 
-const FILES: [(&str, &[u8]); 2] = [("A", &MODULE), ("CUT", b"\x80\x03")];
+const FILES: [(&str, &[u8]); 3] = [
+    ("A", &MODULE),
+    ("CUT", b"\x80\x03"),
+    ("WRONG", b"\x8A\x02\x00\x40\x00"),
+];
 
 /// The pages of a world, and how many of its files are open.
 #[derive(Drop)]
@@ -139,6 +143,35 @@ module \"A\" members 1
 }
 
 #[test]
+fn shows(rt: HostRuntime) -> Result<(), Fail> {
+    run(
+        rt.alloc(),
+        20_000,
+        "\
+show CUT NONE A
+= status 3
+module \"CUT\" members 1
+  00000000       2 \"\"
+module \"A\" members 1
+  00000000      22 \"A\"
+    00000000 THEADR \"A\"
+    00000006 PUBDEF segment #1
+      \"y\" offset 0000 type 0
+    00000011 MODEND
+! doslib: CUT: 44 Truncated at place 0
+! doslib: NONE: 1 Device: no such file
+
+show WRONG
+= status 1
+module \"WRONG\" members 1
+  00000000       5 \"\"
+    00000000 MODEND wrong at byte 0 of 1
+      0000 40
+! doslib: WRONG: 6 Body at place 0",
+    )
+}
+
+#[test]
 fn failing_output(rt: HostRuntime) -> Result<(), Fail> {
     run(
         rt.alloc(),
@@ -151,10 +184,11 @@ module ! doslib: output: 40 Device",
 }
 
 /// Words that ask for help or the version, and wrong ones, each with how what the run did begins, and a part of it.
-const SAID: [(&str, &str, &str); 8] = [
+const SAID: [(&str, &str, &str); 9] = [
     ("help", "status 0\n", "Usage: doslib <COMMAND>\n"),
     ("--help", "status 0\n", "Usage: doslib <COMMAND>\n"),
     ("help list", "status 0\n", "Usage: doslib list <FILES>...\n"),
+    ("show -h", "status 0\n", "Usage: doslib show <FILES>...\n"),
     ("list -h", "status 0\n", "Exit status: 0 all is done"),
     ("--version", "status 0\ndoslib 1.0\n", ""),
     ("list", "status 2\n! ", "<FILES>..."),
