@@ -53,7 +53,8 @@ fn records_of(alloc: Global, module: &[u8]) -> Result<Option<String>, Fail> {
     Ok(Some(text))
 }
 
-/// Whether the module of a row is taken as the row says what it is lowered to.
+/// Whether the module of a row is taken as the row says what it is lowered to. Of one that has no record that is short
+/// enough it isn't asked, since none is written.
 pub fn compare_plain<R: Abort>(
     rt: &R,
     alloc: Global,
@@ -64,6 +65,9 @@ pub fn compare_plain<R: Abort>(
     let [module, ..] = row.inputs.as_slice() else {
         return Ok(());
     };
+    if row.wanted.ends_with("longer than a record may be") {
+        return Ok(());
+    }
     let wanted = if row.wanted.is_empty() {
         let lowered = row.inputs.last().unwrap_or(module);
         records_of(alloc, lowered)?
