@@ -1,12 +1,13 @@
 """What `doslib show` prints of files, by docs/DOSLIB.md and the bodies of TIS OMF 1.1.
 
-It is told here by itself: what files hold is told as for `doslib list`, and a body is read by a
-reader of its own, which asks for as many bytes 00 behind its end as it wants.
+It is told here by itself: what files hold is told as for `doslib list`, and behind the end of a body
+stand as many bytes 00 as are asked for.
 """
 
-from model import listing
+from model import listing, parsing
 from model.faults import DOSLINK_NAMES
 from model.listing import Answer, quoted
+from model.parsing import Refused, refuse_unless
 
 BODY_FAULT = 6
 DEEPEST_LEVEL = 64
@@ -41,51 +42,14 @@ PATCHED = {0: "byte", 1: "word", 2: "dword"}
 ROOM = 16
 
 
-class Refused(Exception):
-    """No body of the type begins with what was read."""
-
-
-def refuse_unless(accepted):
-    if not accepted:
-        raise Refused
-
-
-class Body:
-    """Reads a body from its front on; behind its end stand as many bytes 00 as are asked for."""
-
-    def __init__(self, content):
-        self.content = content
-        self.place = 0
-
-    def has_more(self):
-        return self.place < len(self.content)
-
-    def bytes(self, count):
-        first = self.place
-        self.place += count
-        return self.content[first:self.place].ljust(count, b"\0")
-
-    def byte(self):
-        return self.bytes(1)[0]
+class Body(parsing.Body):
+    """Reads a body from its front on, with numbers of any width."""
 
     def number(self, width):
         return int.from_bytes(self.bytes(width), "little")
 
-    def index(self):
-        first = self.byte()
-        return first if first < 0x80 else 256 * (first - 0x80) + self.byte()
-
-    def name(self):
-        return self.bytes(self.byte())
-
-    def rest(self):
-        return self.bytes(max(len(self.content) - self.place, 0))
-
     def each(self, read):
-        found = []
-        while self.has_more():
-            found.append(read())
-        return found
+        return self.to_the_end(read)
 
 
 class Names:
