@@ -21,6 +21,11 @@ one_there : (a : Bool) → ((a && true) || false) ≡ true → a ≡ true
 one_there true e = refl
 one_there false e = e
 
+two_there : (a b : Bool) → ((a && (b && true)) || false) ≡ true → (a ≡ true) × (b ≡ true)
+two_there true true e = (refl, refl)
+two_there true false e = absurd (true≢false (sym e))
+two_there false b e = absurd (true≢false (sym e))
+
 pub list_values : (name : Text) (rows : List Row) → IsEntered name rows → name ≡ codes "list"
     → IsSome (first_of (codes "FILES") rows)
 unfolding IsEntered clap_on_literals
@@ -33,15 +38,67 @@ unfolding IsEntered clap_on_literals
 show_values name rows entered is =
     one_there (is_some (first_of (codes "FILES") rows)) (subst (λ n. IsEntered n rows) is entered)
 
+pub make_values : (name : Text) (rows : List Row) → IsEntered name rows → name ≡ codes "make"
+    → IsSome (first_of (codes "LIB") rows) × IsSome (first_of (codes "FILES") rows)
+unfolding IsEntered clap_on_literals
+make_values name rows entered is =
+    two_there (is_some (first_of (codes "LIB") rows)) (is_some (first_of (codes "FILES") rows))
+    (subst (λ n. IsEntered n rows) is entered)
+
+pub add_values : (name : Text) (rows : List Row) → IsEntered name rows → name ≡ codes "add"
+    → IsSome (first_of (codes "LIB") rows) × IsSome (first_of (codes "FILES") rows)
+unfolding IsEntered clap_on_literals
+add_values name rows entered is =
+    two_there (is_some (first_of (codes "LIB") rows)) (is_some (first_of (codes "FILES") rows))
+    (subst (λ n. IsEntered n rows) is entered)
+
+pub delete_values : (name : Text) (rows : List Row) → IsEntered name rows → name ≡ codes "delete"
+    → IsSome (first_of (codes "LIB") rows) × IsSome (first_of (codes "MEMBERS") rows)
+unfolding IsEntered clap_on_literals
+delete_values name rows entered is =
+    two_there (is_some (first_of (codes "LIB") rows)) (is_some (first_of (codes "MEMBERS") rows))
+    (subst (λ n. IsEntered n rows) is entered)
+
+pub replace_values : (name : Text) (rows : List Row) → IsEntered name rows → name ≡ codes "replace"
+    → IsSome (first_of (codes "LIB") rows) × IsSome (first_of (codes "FILES") rows)
+unfolding IsEntered clap_on_literals
+replace_values name rows entered is =
+    two_there (is_some (first_of (codes "LIB") rows)) (is_some (first_of (codes "FILES") rows))
+    (subst (λ n. IsEntered n rows) is entered)
+
+pub extract_values : (name : Text) (rows : List Row) → IsEntered name rows → name ≡ codes "extract"
+    → IsSome (first_of (codes "LIB") rows) × IsSome (first_of (codes "MEMBERS") rows)
+unfolding IsEntered clap_on_literals
+extract_values name rows entered is =
+    two_there (is_some (first_of (codes "LIB") rows)) (is_some (first_of (codes "MEMBERS") rows))
+    (subst (λ n. IsEntered n rows) is entered)
+
+pub names_values : (name : Text) (rows : List Row) → IsEntered name rows → name ≡ codes "names"
+    → IsSome (first_of (codes "FILES") rows)
+unfolding IsEntered clap_on_literals
+names_values name rows entered is =
+    one_there (is_some (first_of (codes "FILES") rows)) (subst (λ n. IsEntered n rows) is entered)
+
 differs : (x name : Text) → (name ≡ x → ⊥) → bytes_eq x name ≡ false
 differs x name other = false_from_ne_true _ (λ e. other (sym ((bytes_eq-Decides x name).0 e)))
 
 pub one_of_all : (name : Text) (rows : List Row) → IsEntered name rows → (name ≡ codes "list" → ⊥)
-    → (name ≡ codes "show" → ⊥) → ⊥
+    → (name ≡ codes "show" → ⊥) → (name ≡ codes "make" → ⊥) → (name ≡ codes "add" → ⊥)
+    → (name ≡ codes "delete" → ⊥) → (name ≡ codes "replace" → ⊥) → (name ≡ codes "extract" → ⊥)
+    → (name ≡ codes "names" → ⊥) → ⊥
 unfolding IsEntered
-one_of_all name rows entered list show =
+one_of_all name rows entered list show make add delete replace extract names =
     let none : false ≡ true =
-    rw (differs (codes "list") name list, differs (codes "show") name show) at entered in
+    rw (
+      differs (codes "list") name list,
+      differs (codes "show") name show,
+      differs (codes "make") name make,
+      differs (codes "add") name add,
+      differs (codes "delete") name delete,
+      differs (codes "replace") name replace,
+      differs (codes "extract") name extract,
+      differs (codes "names") name names,
+    ) at entered in
     absurd (true≢false (sym none))
 
 -- ---- the command

@@ -1,11 +1,13 @@
 -- The command line: what each subcommand takes, and which job its values are.
-use Rattle.std.specs.Prelude.{◌≡◌, ◌≤◌, true, List, length, Some, IsSomeAnd, codes}
+use Rattle.std.specs.Prelude.{◌≡◌, true, List, Some, IsSomeAnd, codes}
 use Rattle.std.specs.Borrow.{Bor}
-use Rattle.clap.specs.Words.{App, Row, Text, all_of, new_app, subcommand_of, takes, with_rule, with_subcommand}
+use Rattle.clap.specs.Words.{App, Row, Text, first_of, new_app, subcommand_of, takes, with_rule, with_subcommand}
 use Rattle.command_line.specs.Rules.{files_rule}
-pub use Rattle.command_line.specs.Values.{texts}
+pub use Rattle.command_line.specs.Values.{IsFlag, texts}
 use Rattle.doslib_words.specs.declared.words.Job.{Job}
-use Rattle.doslib_words.specs.declared.words.Job.TheVariants.{List as ListJob, Show as ShowJob}
+use Rattle.doslib_words.specs.declared.words.Job.TheVariants.{List as ListJob, Show as ShowJob, Make, Add, Delete}
+use Rattle.doslib_words.specs.declared.words.Job.TheVariants.{Replace, Extract, Names}
+use Rattle.doslib_words.specs.Libraries.{AreValues, names_command, with_changes}
 
 -- `NAME FILES..`
 abbrev pub files_command : Text → App
@@ -28,16 +30,32 @@ bare_command =
 unfoldable pub doslib_command : App
 doslib_command =
     let listing = with_subcommand bare_command (files_command (codes "list")).top in
-    with_subcommand listing (files_command (codes "show")).top
+    let changing = with_changes (with_subcommand listing (files_command (codes "show")).top) in
+    with_subcommand changing names_command.top
 
 -- these are the files of a subcommand with these values, one at least
 abbrev pub AreFiles : List Row → List (Bor Text) → Type 0
-AreFiles rows files = (all_of (codes "FILES") rows ≡ Some (texts files)) × (1 ≤ length files)
+AreFiles rows files = AreValues (codes "FILES") rows files
+
+-- this is the library of one, and the files or members with it
+abbrev pub AreForLibrary : List Row → (library : Bor Text) → (id : Text) → List (Bor Text) → Type 0
+AreForLibrary rows library id values =
+    (first_of (codes "LIB") rows ≡ Some library.now) × AreValues id rows values
 
 -- `job` is what these values of the subcommand `name` ask for
 abbrev pub IsJobOf : Text → List Row → Job → Type 0
 IsJobOf name rows (ListJob files) = (name ≡ codes "list") × AreFiles rows files.items
 IsJobOf name rows (ShowJob files) = (name ≡ codes "show") × AreFiles rows files.items
+IsJobOf name rows (Make library files) = (name ≡ codes "make") × AreForLibrary rows library (codes "FILES") files.items
+IsJobOf name rows (Add library files) = (name ≡ codes "add") × AreForLibrary rows library (codes "FILES") files.items
+IsJobOf name rows (Delete library members) =
+    (name ≡ codes "delete") × AreForLibrary rows library (codes "MEMBERS") members.items
+IsJobOf name rows (Replace library files) =
+    (name ≡ codes "replace") × AreForLibrary rows library (codes "FILES") files.items
+IsJobOf name rows (Extract library members) =
+    (name ≡ codes "extract") × AreForLibrary rows library (codes "MEMBERS") members.items
+IsJobOf name rows (Names ignore_case files) =
+    (name ≡ codes "names") × IsFlag (codes "ignore-case") rows ignore_case × AreFiles rows files.items
 
 -- the command takes the words, and `job` is what its matches give for them
 unfoldable pub IsJobFor : List Text → Job → Type 0

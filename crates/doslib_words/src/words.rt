@@ -1,20 +1,23 @@
 //! The words of the command line.
-ghost use Rattle.std.specs.Prelude.{◌≡◌, IfErr, IfOk, IsSome, Some, codes, false, true};
+ghost use Rattle.std.specs.Prelude.{◌≡◌, IfErr, IfOk, IsSome, codes, false, true};
 ghost use Rattle.clap.specs.Words.{App, app_of, first_of, found_of, is_simple, rows_of, rule_of, takes};
 ghost use Rattle.clap.specs.Words.{with_subcommand};
 ghost use Rattle.clap.specs.declared.Command.{out-Command as fields_of};
 ghost use Rattle.command_line.specs.Rules.{files_rule};
+ghost use Rattle.doslib_words.specs.Libraries as libraries;
 ghost use Rattle.doslib_words.specs.Words as spec;
 ghost use Rattle.doslib_words.specs.Words.{IsJobFor, IsJobOf, texts};
 ghost use Rattle.doslib_words.specs.inside.Words.{IsEntered};
 
+use crate::libraries::{library_command, members_arg, needed, values_of};
+use crate::names::{names_command, names_job};
 use clap::builder::ValueRange;
 use clap::{Arg, ArgMatches, Command};
 use command_line::{VERSION, WordsFault, refusal, with_arg};
 use std::alloc::{AllocError, Global};
 
 /// What stands at the end of help.
-const STATUSES: &str = "\
+pub(crate) const STATUSES: &str = "\
 Exit status: 0 all is done, 1 a file is at fault, 2 wrong arguments, 3 a file or device\n\
 failed or out of memory. A fault is one line on standard error.";
 
@@ -30,6 +33,48 @@ pub enum Job<'a> {
     Show {
         /// The paths of the files, in their order.
         files: Vec<&'a str>,
+    },
+    /// Make a library of the modules of files.
+    Make {
+        /// The path of the library that is written.
+        library: &'a str,
+        /// The paths of the files, in their order.
+        files: Vec<&'a str>,
+    },
+    /// Put the modules of files behind those of a library.
+    Add {
+        /// The path of the library.
+        library: &'a str,
+        /// The paths of the files, in their order.
+        files: Vec<&'a str>,
+    },
+    /// Take members out of a library.
+    Delete {
+        /// The path of the library.
+        library: &'a str,
+        /// The names of the members.
+        members: Vec<&'a str>,
+    },
+    /// Put each module of files in the place of the member of its name.
+    Replace {
+        /// The path of the library.
+        library: &'a str,
+        /// The paths of the files, in their order.
+        files: Vec<&'a str>,
+    },
+    /// List the names that modules of files want and none defines, and those that two define.
+    Names {
+        /// Whether names agree without regard to case.
+        ignore_case: bool,
+        /// The paths of the files, in their order.
+        files: Vec<&'a str>,
+    },
+    /// Write members of a library to files of their own.
+    Extract {
+        /// The path of the library, or of another file.
+        library: &'a str,
+        /// The names of the members.
+        members: Vec<&'a str>,
     },
 }
 
@@ -101,20 +146,56 @@ fn doslib_command<'a>(alloc: Global) -> Result<Command<'a>, AllocError>
         "show",
         "Shows each record of files, with names in place of indexes",
     );
-    with_command(command, show)
+    let command = with_command(command, show);
+    let command = with_changes(alloc, command);
+    with_command(command, names_command(alloc, files(alloc)))
 }
 
-/// The files of a subcommand, by its values.
-fn files_of<'a>(alloc: Global, values: &ArgMatches<'a>) -> Result<Vec<&'a str>, WordsFault>
-    requires { IsSome (first_of (codes "FILES") (rows_of (found_of values.now))) }
-    ensures ok { IfOk result (λ files. spec.AreFiles (rows_of (found_of values.now)) files.items) }
-    ensures err { IfErr result (λ e. e ≡ WordsFault.Memory) }
+/// The command with the subcommands that make and change libraries.
+fn with_changes<'a>(
+    alloc: Global,
+    above: Result<Command<'a>, AllocError>,
+) -> Result<Command<'a>, AllocError>
+    requires { IfOk above (λ a. (fields_of a).has_globals ≡ false) }
+    ensures app { (outer : App) → IfOk above.entry (λ a. app_of a ≡ outer)
+        → IfOk result (λ c. app_of c ≡ libraries.with_changes outer) }
+    ensures local { IfOk result (λ c. (fields_of c).has_globals ≡ false) }
 {
-    let files = values.get_strs("FILES").unwrap();
-    match Vec::from_slice(alloc, files) {
-        Ok(files) => Ok(files),
-        Err(_) => Err(WordsFault::Memory),
-    }
+    let make = library_command(
+        alloc,
+        "make",
+        "Makes a library of the modules of files, with its dictionary",
+        files(alloc),
+    );
+    let command = with_command(above, make);
+    let add = library_command(
+        alloc,
+        "add",
+        "Puts the modules of files behind those of a library",
+        files(alloc),
+    );
+    let command = with_command(command, add);
+    let delete = library_command(
+        alloc,
+        "delete",
+        "Takes members out of a library",
+        members_arg(alloc),
+    );
+    let command = with_command(command, delete);
+    let replace = library_command(
+        alloc,
+        "replace",
+        "Puts each module of files in the place of the member of its name",
+        files(alloc),
+    );
+    let command = with_command(command, replace);
+    let extract = library_command(
+        alloc,
+        "extract",
+        "Writes each member to a file of its own, NAME.OBJ",
+        members_arg(alloc),
+    );
+    with_command(command, extract)
 }
 
 /// The job of a subcommand that the command entered, by its values.
@@ -125,11 +206,32 @@ fn job_of<'a>(alloc: Global, name: &str, values: &ArgMatches<'a>) -> Result<Job<
 {
     match name {
         "list" => Ok(Job::List {
-            files: files_of(alloc, values)?,
+            files: values_of(alloc, values, "FILES")?,
         }),
         "show" => Ok(Job::Show {
-            files: files_of(alloc, values)?,
+            files: values_of(alloc, values, "FILES")?,
         }),
+        "make" => Ok(Job::Make {
+            library: needed(values, "LIB"),
+            files: values_of(alloc, values, "FILES")?,
+        }),
+        "add" => Ok(Job::Add {
+            library: needed(values, "LIB"),
+            files: values_of(alloc, values, "FILES")?,
+        }),
+        "delete" => Ok(Job::Delete {
+            library: needed(values, "LIB"),
+            members: values_of(alloc, values, "MEMBERS")?,
+        }),
+        "replace" => Ok(Job::Replace {
+            library: needed(values, "LIB"),
+            files: values_of(alloc, values, "FILES")?,
+        }),
+        "extract" => Ok(Job::Extract {
+            library: needed(values, "LIB"),
+            members: values_of(alloc, values, "MEMBERS")?,
+        }),
+        "names" => names_job(alloc, values),
         _ => unreachable!(),
     }
 }

@@ -5,4 +5,6 @@ pub returns : goal.returns
 unfolding doslib_command
 returns c =
     let one = c.with_command-command.ensures.app _ _ c.bare_command.ensures.app c.files_command-list.ensures.app in
-    c.with_command.ensures.app _ _ one c.files_command-show.ensures.app
+    let two = c.with_command-command-2.ensures.app _ _ one c.files_command-show.ensures.app in
+    let all = c.with_changes-command.ensures.app _ two in
+    c.with_command.ensures.app _ _ all c.names_command.ensures.app
