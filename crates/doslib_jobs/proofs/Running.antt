@@ -22,11 +22,12 @@ use Rattle.doslib_jobs.specs.declared.outcome.Outcome.{Outcome}
 use Rattle.doslib_jobs.specs.Jobs.{IsRead, Ran, Read, greatest, read_status}
 use Rattle.doslib_jobs.specs.inside.Running.{Adds}
 
-greatest-push : (ns : List ℕ) (n : ℕ) → greatest (ns ++ n ∷ []) ≡ max (greatest ns) n
+pub greatest-push : (ns : List ℕ) (n : ℕ) → greatest (ns ++ n ∷ []) ≡ max (greatest ns) n
 greatest-push [] n = omega arith
 greatest-push (m ∷ ns) n = omega (arith, greatest-push ns n)
 
-flat_map-push : {X : Type 0} (f : X → List ℕ) (xs : List X) (x : X) → flat_map f (xs ++ x ∷ []) ≡ flat_map f xs ++ f x
+pub flat_map-push : {X : Type 0} (f : X → List ℕ) (xs : List X) (x : X)
+    → flat_map f (xs ++ x ∷ []) ≡ flat_map f xs ++ f x
 flat_map-push f xs x = flat_map-append f xs (x ∷ []) ∙ ap (λ l. flat_map f xs ++ l) (append-nil (f x))
 
 -- no file was told of
@@ -43,7 +44,8 @@ ran-none tells told old lines status none zero = record {
 }
 
 -- one file more
-pub ran-more : {A : Type 0} (tells : List ℕ → List ℕ → List ℕ → List ℕ → Type 0) (told : List ℕ → Option (List ℕ))
+abbrev pub ran-more : {A : Type 0} (tells : List ℕ → List ℕ → List ℕ → List ℕ → Type 0)
+    (told : List ℕ → Option (List ℕ))
     (files : List (Bor (List ℕ))) (i : ℕ) (d : Bor (List ℕ)) (old mid new : Option (List ℕ)) (before after : Outcome A)
     → i < length files → Ran tells told (texts (take i files)) old mid before.lines.items before.status
     → Adds tells told (get_or files i d).now mid new before after

@@ -1,3 +1,5 @@
 pub mod Reading
+pub mod Libraries
+pub mod LibraryLines
 pub mod Jobs
 pub mod inside

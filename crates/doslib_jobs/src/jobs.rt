@@ -1,13 +1,18 @@
 //! What each subcommand does with files and the two streams, and the status that it ends with.
 ghost use Rattle.std.specs.Prelude.{◌≡◌, ◌-◌, ◌^◌, ◌<◌};
 ghost use Rattle.omf_files.specs.Files.{sink_bytes, sink_failures};
+ghost use Rattle.doslink_files.specs.Written.{StandsAt};
 ghost use Rattle.doslib_jobs.specs.Jobs.{Answers, Ends, EndsRefused, Prints, Runs, Tells, exit_status};
 ghost use Rattle.doslib_jobs.specs.Jobs.{stopped_line, told_lines};
 ghost use Rattle.doslib_jobs.specs.declared.fault.Stopped.TheVariants as stopped;
 ghost use Rattle.doslib_jobs.specs.inside.Running.{outcome_said};
 ghost use Rattle.doslib_words.specs.Words.{texts};
 
+use crate::changing::Change;
+use crate::extracting::extract;
 use crate::fault::Stopped;
+use crate::making::{change_library, make_library};
+use crate::naming::tell_names;
 use crate::outcome::{FAILED, Outcome};
 use crate::telling::{Telling, tell_files};
 use command_line::WordsFault;
@@ -30,8 +35,9 @@ pub fn run_words<W: World + Copy, O: Write + Drop, E: Sink>(
 ) -> u8
     requires output { sink_failures output.old ≡ 0 }
     requires errors { E.failures errors.old < 2 ^ 64 - 1 }
-    ensures { Runs (W.bytes world) (texts words.now) (sink_bytes O.contents output.old)
-        (sink_bytes O.contents output.new) (Tells E.written E.failures errors.old errors.new) result }
+    ensures { Runs (W.bytes world) (StandsAt (W.blank world) (W.Puts world)) (texts words.now)
+        (sink_bytes O.contents output.old) (sink_bytes O.contents output.new)
+        (Tells E.written E.failures errors.old errors.new) result }
 {
     match parse_words(alloc, words) {
         Ok(job) => run_job(alloc, world, &job, output, errors),
@@ -71,8 +77,9 @@ pub fn run_job<W: World + Copy, O: Write + Drop, E: Sink, A: Allocator + Copy>(
 ) -> u8
     requires output { sink_failures output.old ≡ 0 }
     requires errors { E.failures errors.old < 2 ^ 64 - 1 }
-    ensures { Ends (Answers (W.bytes world) job.now (sink_bytes O.contents output.old)
-        (sink_bytes O.contents output.new)) (Tells E.written E.failures errors.old errors.new) result }
+    ensures { Ends (Answers (W.bytes world) (StandsAt (W.blank world) (W.Puts world)) job.now
+        (sink_bytes O.contents output.old) (sink_bytes O.contents output.new))
+        (Tells E.written E.failures errors.old errors.new) result }
 {
     let answer = answer_job(alloc, world, job, output);
     finish(&answer, errors)
@@ -86,12 +93,26 @@ fn answer_job<W: World + Copy, O: Write + Drop, A: Allocator + Copy>(
     output: &mut BufferedSink<O, A>,
 ) -> Result<Outcome<A>, Stopped>
     requires { sink_failures output.old ≡ 0 }
-    ensures { Answers (W.bytes world) job.now (sink_bytes O.contents output.old) (sink_bytes O.contents output.new)
-        (outcome_said result) }
+    ensures { Answers (W.bytes world) (StandsAt (W.blank world) (W.Puts world)) job.now
+        (sink_bytes O.contents output.old) (sink_bytes O.contents output.new) (outcome_said result) }
 {
     match job {
         Job::List { files } => tell_files(alloc, world, Telling::Members, files, output),
         Job::Show { files } => tell_files(alloc, world, Telling::Records, files, output),
+        Job::Make { library, files } => make_library(alloc, world, library, files),
+        Job::Add { library, files } => {
+            change_library(alloc, world, Change::Added, library, files)
+        }
+        Job::Delete { library, members } => {
+            change_library(alloc, world, Change::Deleted(members), library, &[])
+        }
+        Job::Replace { library, files } => {
+            change_library(alloc, world, Change::Replaced, library, files)
+        }
+        Job::Names { ignore_case, files } => {
+            tell_names(alloc, world, *ignore_case, files, output)
+        }
+        Job::Extract { library, members } => extract(alloc, world, library, members),
     }
 }
 

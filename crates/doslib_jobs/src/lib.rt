@@ -2,10 +2,16 @@
 //! ends with.
 #![tactic(auto)]
 
+mod changing;
+mod extracting;
 mod fault;
 mod jobs;
+mod library_lines;
+mod making;
+mod naming;
 mod outcome;
 mod reading;
+mod taking;
 mod telling;
 
 pub use fault::Stopped;

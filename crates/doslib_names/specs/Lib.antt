@@ -1,0 +1,4 @@
+pub mod Names
+pub mod Lines
+pub mod Said
+pub mod inside
