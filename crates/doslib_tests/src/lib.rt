@@ -6,6 +6,8 @@ mod files;
 #[cfg(test)]
 mod growths;
 #[cfg(test)]
+mod libraries;
+#[cfg(test)]
 mod list;
 #[cfg(test)]
 mod matching;

@@ -17,8 +17,16 @@ const MODULE: [u8; 22] = [
     0xED, 0x8A, 0x02, 0x00, 0x00, 0x74,
 ];
 
-const FILES: [(&str, &[u8]); 3] = [
+/// A library of that module alone.
+const LIBRARY: [u8; 51] = [
+    0xF0, 0x0D, 0x00, 0, 0, 0, 0, 0, 0, 0, 0, 0, 0, 0, 0, 0, 0x80, 0x03, 0x00, 0x01, 0x41, 0x3B,
+    0x90, 0x08, 0x00, 0x00, 0x01, 0x01, 0x79, 0x00, 0x00, 0x00, 0xED, 0x8A, 0x02, 0x00, 0x00, 0x74,
+    0, 0, 0, 0, 0, 0, 0, 0, 0, 0, 0xF1, 0x00, 0x00,
+];
+
+const FILES: [(&str, &[u8]); 4] = [
     ("A", &MODULE),
+    ("LIB", &LIBRARY),
     ("CUT", b"\x80\x03"),
     ("WRONG", b"\x8A\x02\x00\x40\x00"),
 ];
@@ -229,16 +237,48 @@ fn refused<'a>(
     }
 }
 
-#[test]
-fn refused_growths(rt: HostRuntime) -> Result<(), Fail> {
-    let alloc = rt.alloc();
-    let words = words_of(alloc, "list A NONE")?;
-    let wanted = "\
+/// Words, and what a run of them does.
+const GROWTHS: [(&str, &str); 7] = [
+    (
+        "list A NONE",
+        "\
 status 3
 module \"A\" members 1
   00000000      22 \"A\"
     offers \"y\"
-! doslib: NONE: 1 Device: no such file";
-    let (_, made_do) = refuse_each(alloc, wanted, |memory| refused(alloc, memory, &words))?;
-    same(&format!(in alloc; "{made_do} made do")?, "0 made do")
+! doslib: NONE: 1 Device: no such file",
+    ),
+    (
+        "names A LIB",
+        "\
+status 1
+defined twice \"y\": A and LIB(A) define it",
+    ),
+    (
+        "make OUT A A",
+        "\
+status 0
+! doslib: warning: OUT: \"A!\" is in \"A\" and in \"A\"
+! doslib: warning: OUT: \"y\" is in \"A\" and in \"A\"",
+    ),
+    ("replace LIB A", "status 0"),
+    ("delete LIB a", "status 0"),
+    (
+        "delete LIB b",
+        "\
+status 1
+! doslib: LIB: 74 NoMember \"b\"",
+    ),
+    ("extract LIB A a", "status 0"),
+];
+
+#[test]
+fn refused_growths(rt: HostRuntime) -> Result<(), Fail> {
+    let alloc = rt.alloc();
+    for (line, wanted) in GROWTHS {
+        let words = words_of(alloc, line)?;
+        let (_, made_do) = refuse_each(alloc, wanted, |memory| refused(alloc, memory, &words))?;
+        same(&format!(in alloc; "{made_do} made do")?, "0 made do")?;
+    }
+    Ok(())
 }
