@@ -155,4 +155,50 @@ RECORDS = [
            "            names = answer.__dict__.setdefault(\"names\", Names())\n            for record"),
     Change("faults of bodies stand last", SHOW, "[*wrong, *faults]", "[*faults, *wrong]"),
 ]
-CHANGES = [*RECORDS, *FILES, *NAMES, *PRINTED]
+MAKE = "making.py"
+LIBRARIES = [
+    Change("a library is made of faulty files", MAKE,
+           "    sources = read(files, answer)\n    if answer.status:\n        return answer\n    try:",
+           "    sources = read(files, answer)\n    try:"),
+    Change("an archive is changed as a library is", MAKE, "if sources[0].kind != listing.LIBRARY:",
+           "if sources[0].kind == listing.MODULE:"),
+    Change("modules are added in front", MAKE, "return members + more", "return more + members"),
+    Change("all members of a name are deleted", MAKE, "return members[:at] + change + members[at + 1:]",
+           "return members[:at] + change + [each for each in members[at + 1:] if change or not has_name(each, name)]"),
+    Change("the case of a member's name counts", MAKE, "return own_name(module).lower() == name.lower()",
+           "return own_name(module) == name"),
+    Change("a member has its extension in its name", MAKE,
+           'return name[:name.rindex(b".")] if b"." in name else name', "return name"),
+    Change("a member has its folder in its name", MAKE, "        name = name[name.rfind(bytes([end])) + 1:]\n",
+           "        pass\n"),
+    Change("a module has no name in the dictionary", MAKE, '([name + b"!"] if name else [])', "[]"),
+    Change("a module without a name has one in the dictionary", MAKE, '([name + b"!"] if name else [])',
+           '[name + b"!"]'),
+    Change("a name that two members have is no warning", MAKE, "            if name in first:\n                warnings",
+           "            if False:\n                warnings"),
+    Change("a warning names the second module twice", MAKE, "quoted(own_name(first[name]))", "quoted(own_name(module))"),
+    Change("a name may have any length", MAKE, "LONGEST_NAME = 65_535, 255", "LONGEST_NAME = 65_535, 999"),
+    Change("a module needs no header", MAKE, 'if module[:1] not in (b"\\x80", b"\\x82"):', "if False:"),
+    Change("what stands behind a module is its part", MAKE, "return module[:records[-1].behind], names",
+           "return module, names"),
+    Change("a library is made over a module", MAKE, "if command == \"make\" and (is_module(there)",
+           "if command == \"make\" and (False"),
+    Change("members are taken out before one that isn't there", MAKE,
+           "            answer.tell(f\"{path}: 74 {LABELS[74]} {quoted(name.encode())}\", 1)\n            return answer\n",
+           "            answer.tell(f\"{path}: 74 {LABELS[74]} {quoted(name.encode())}\", 1)\n            break\n"),
+]
+OF_NAMES = [
+    Change("weak externals want a definition", MAKE, "return replace(names, wanted=names.needed)", "return names"),
+    Change("a name is missing once for all modules", MAKE, "    for each in search.missing(said, [], key):\n",
+           "    once = {}\n    for each in search.missing(said, [], key):\n"
+           "        once.setdefault(key(each.name), each)\n    for each in once.values():\n"),
+    Change("a place is one of the module", MAKE,
+           "place = member.place + next(iter(wanting_places(content, each.name)), 0)",
+           "place = next(iter(wanting_places(content, each.name)), 0)"),
+    Change("case counts in what is defined twice", MAKE, "            if key(name) in first:", "            if name in first:"),
+    Change("names that are missing or doubled are status 0", MAKE, "        answer.status = max(answer.status, 1)\n",
+           "        pass\n"),
+    Change("a module of a library is told by its path alone", MAKE,
+           'return source.path if source.kind == listing.MODULE else f"{source.path}({name})"', "return source.path"),
+]
+CHANGES = [*RECORDS, *FILES, *NAMES, *PRINTED, *LIBRARIES, *OF_NAMES]

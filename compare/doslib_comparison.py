@@ -1,18 +1,23 @@
-"""Runs `doslib list` and `doslib show` and their models on the same files, and tells where they differ."""
+"""Runs the commands of `doslib` and their models on the same files, and tells where they differ."""
 
 import os
 import random
+import re
 import subprocess
+from pathlib import Path
 
 import comparison
 from comparison import expect
 from generator import listings
-from model import faults, listing, showing
+from model import faults, listing, making, showing
 
 KINDS = (listing.MODULE, listing.LIBRARY, listing.ARCHIVE, "unread", "output")
 no_counts, lines_of_limits = comparison.no_counts, comparison.lines_of_limits
 # one seed in so many has an output that fails
 FAILS_EVERY = 50
+OUT = "OUT.LIB"
+# names of members that are asked for have no other characters, so that files can have them under any system
+PLAIN_NAME = re.compile(rb"\w+")
 
 
 class Comparison(comparison.Comparison):
@@ -29,6 +34,49 @@ class Comparison(comparison.Comparison):
                 answer, output = listing.at_failing_output(answer), comparison.FULL_DEVICE
             self.counts.ends.update(answer.ends)
             self.run([command, *(path for path, _ in files)], answer, output)
+        self.compare_names(chance, files)
+        self.compare_libraries(chance, files)
+
+    def compare_names(self, chance, files):
+        """What is told of the names of files."""
+        ignores_case = chance.random() < 0.3
+        words = ["names", *(["--ignore-case"] if ignores_case else []), *(path for path, _ in files)]
+        self.run(words, comparison.asked(making.printed_names, files, ignores_case))
+
+    def compare_libraries(self, chance, files):
+        """A library is made of files, and changed by some of them; members are taken out of it."""
+        self.change("make", OUT, files)
+        library = OUT if OUT in self.there else chance.choice(files)[0]
+        some = chance.sample(files, chance.randrange(1, len(files) + 1))
+        self.change(chance.choice(["add", "replace"]), library, some)
+        command, model = chance.choice([("delete", making.delete), ("extract", making.extract)])
+        given = self.now(library)
+        names = self.some_names(chance, given)
+        self.run([command, library, *names], comparison.asked(model, library, [given], names))
+        # mostly over a module or an archive
+        self.change("make", chance.choice([path for path, _ in files if path in self.there] or [OUT]), files)
+
+    def change(self, command, path, files):
+        """A library is made, or changed by files."""
+        given, there = [self.now(each) for each, _ in files], self.there.get(path, b"")
+        if command != "make":
+            given.insert(0, self.now(path))
+        answer = comparison.asked(making.change, command, path, given, (), there)
+        self.run([command, path, *(each for each, _ in files)], answer)
+
+    def now(self, path):
+        """A file of this path as it is now."""
+        return path, self.there.get(path, self.given.get(path, listings.NO_FILE))
+
+    @staticmethod
+    def some_names(chance, library):
+        """Names of members of a library, in any case, at times one that isn't there."""
+        found = [] if isinstance(library[1], str) else [
+            making.own_name(each) for each in making.modules_of(making.read([library], making.Answer()))]
+        found = [each.decode() for each in found if PLAIN_NAME.fullmatch(each)]
+        names = chance.sample(found, min(len(found), chance.randrange(1, 4)))
+        names = [each.swapcase() if chance.random() < 0.3 else each for each in names]
+        return [*names, "none"] if not names or chance.random() < 0.1 else names
 
     def path_of(self, path):
         """What a path is called here, which may be a system that hasn't all names of files."""
@@ -37,13 +85,16 @@ class Comparison(comparison.Comparison):
     def put(self, files):
         """A folder with these files."""
         self.new_folder()
+        self.there, self.folders, self.given = {}, set(), dict(files)
         for path, content in files:
             if content == listings.FOLDER:
                 (self.folder / path).mkdir(exist_ok=True)
+                self.folders.add(path)
             elif content != listings.NO_FILE:
                 (self.folder / path).write_bytes(content)
+                self.there[path] = content
 
-    def run(self, words, answer, output):
+    def run(self, words, answer, output=None):
         """Does what the words ask for, and compares the status and both streams."""
         environment = {**os.environ, "LC_ALL": "C.UTF-8"}
         with open(output or os.devnull, "wb") as stdout:
@@ -53,6 +104,15 @@ class Comparison(comparison.Comparison):
         expect("the faults", done.stderr, answer.error)
         expect("the status", [done.returncode], [answer.status])
         expect("the output", done.stdout or b"", answer.output)
+        self.check_files(getattr(answer, "written", {}))
+
+    def check_files(self, written):
+        """The folder has the files of before, and those that were written."""
+        self.there.update(written)
+        found = {path: Path(self.folder, path).read_bytes() for path in self.there}
+        for path, content in self.there.items():
+            expect(f"the file {path}", found[path], content)
+        expect("the files", sorted(os.listdir(self.folder)), sorted([*self.there, *self.folders]))
 
 
 def compare_seeds(program, folder, seeds, keeps=False, kind=Comparison):

@@ -97,9 +97,11 @@ def first_names(members, size):
 
 
 def library_of(members, size):
-    """The library of members with pages of this size."""
+    """The library of members with pages of this size, or None where no dictionary has room for their names."""
     first, behind = first_names(members, size)
     dictionary = dictionary_of(list(first.items()))
+    if dictionary is None:
+        return None
     end = size * behind
     place = -(-(end + 3) // BLOCK) * BLOCK
     head = b"\xF0" + (size - 3).to_bytes(2, "little") + place.to_bytes(4, "little")

@@ -1,9 +1,9 @@
-"""Answers of `doslib list` and `doslib show` that were written out by hand, from docs/DOSLIB.md and docs/FORMATS.md alone.
+"""Answers of `doslib` that were written out by hand, from docs/DOSLIB.md and docs/FORMATS.md alone.
 
 The model must give them.
 """
 
-from model import listing, showing
+from model import listing, making, showing
 
 A = "80 0300 0141 3B  8A 0200 00 74"
 PAGE_16 = "F0 0D00" + "AA" * 13
@@ -59,9 +59,39 @@ module "COUNT.OBJ" members 1
 """
 NAMES = ['offers "q"', 'communal "v"', 'wants "y"', 'library "LIB"']
 
+# a module y that offers x, and one that has no header record
+Y = "80 0700 05 792E6F626A 00  90 0800 00 01 01 78 0000 00 00  8A 0200 00 00"
+HEADLESS = "8A 0200 00 00"
+
+
+def check_libraries():
+    """The same of libraries, and of names."""
+    module = bytes.fromhex(Y)
+    made = making.change("make", "L", [("F", module), ("G", module)])
+    content = made.written["L"]
+    # the header's page, the place of the dictionary behind two members of 32 bytes, its two blocks, and its flag
+    assert content[:10] == bytes.fromhex("F0 0D00 00020000 0200 01"), content[:10].hex()
+    assert content[16:42] == content[48:74] == module and content[80:83] == b"\xF1\xAD\x01", content[:90].hex()
+    assert len(content) == 512 + 2 * 512
+    assert made.error.decode().splitlines() == [
+        'doslib: warning: L: "y!" is in "y" and in "y"', 'doslib: warning: L: "x" is in "y" and in "y"']
+    assert making.change("add", "F", [("F", module), ("G", module)]).error == b"doslib: F: 73 NotLibrary\n"
+    assert making.change("delete", "L", [("L", content)], ["Y", "y"]).status == 0
+    assert making.change("delete", "L", [("L", content)], ["y.obj"]).error == b'doslib: L: 74 NoMember "y.obj"\n'
+    headless = making.change("make", "L", [("F", module), ("G", bytes.fromhex(HEADLESS))])
+    assert (headless.error, headless.written) == (b"doslib: L: 7 NotHeader behind 1 members\n", {}), headless
+    assert making.change("make", "F", [("G", module)], (), module).error == b"doslib: F: 73 NotLibrary\n"
+    assert making.extract("L", [("L", content)], ["Y"]).written == {"Y.OBJ": module}
+    twice = making.printed_names([("F", module), ("L", content)], False)
+    assert twice.output.decode().splitlines() == [
+        'defined twice "x": F and L(y.obj) define it', 'defined twice "x": F and L(y.obj) define it'], twice
+    missing = making.printed_names([("F", bytes.fromhex(NAMED))], True)
+    assert (missing.output, missing.status) == (b'missing "y": F wants it in the record at 00000006\n', 1), missing
+
 
 def check():
     """Raises an AssertionError where the model gives another answer."""
+    check_libraries()
     for title, content, output, errors in FILES:
         answer = listing.list_files([("F", content)])
         assert answer.output.decode().splitlines() == output, title
