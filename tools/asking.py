@@ -1,4 +1,4 @@
-"""The programs to ask, and what `omf` says of a module that it refuses."""
+"""The programs to ask."""
 
 import functools
 import shutil
@@ -26,13 +26,3 @@ def find_program(given, name="omf"):
     if found is None:
         raise FileNotFoundError(f"there is no {name} on the PATH; --{name} PROGRAM names one")
     return found
-
-
-def fault(program, file, content):
-    """The status of `omf show` for these bytes of a file, and its fault's line; for the file itself where they
-    are None, since it can't be read."""
-    asked = file if content is None else "/dev/stdin"
-    done = subprocess.run(
-        [find_program(program), "show", asked], input=content, stdout=subprocess.DEVNULL, stderr=subprocess.PIPE)
-    line = done.stderr.decode("utf-8", "backslashreplace").strip()
-    return done.returncode, line.replace(asked, file, 1)

@@ -141,6 +141,10 @@ COUNTING = (
     + record(FIXUPP, b"\xCC\x01\x56\x01") + comment(0x9F, b"EMU") + record(MODEND, b"\0"))
 CUT_PUBLIC = (
     record(THEADR, name(b"cut.asm")) + record(PUBDEF, b"\0\1\6_count\0\0") + record(MODEND, b"\0"))
+# modules of a library, one with a name of another, and one that wants one of them and another name
+LINE, CIRCLE, FILL = (module(b"%s.asm" % each, publics(b"_%s" % each)) for each in (b"line", b"circle", b"fill"))
+OLD_LINE = module(b"oldline.asm", publics(b"_line"))
+DRAWS = module(b"main.asm", externals(b"_line", b"_exit"), publics(b"_main"), uses(1, 2))
 # the table of symbols of an archive: one name, whose member's header stands behind the table's 14 bytes
 OF_ELF = archive(
     member(b"/", struct.pack(">2I", 1, 8 + 60 + 14) + b"print\0"), member(b"print.o/", b"\x7FELF\1\1\1" + bytes(9)))
@@ -300,13 +304,15 @@ SHOWN = {
         'module "COUNT.OBJ" members 1': Printed("doslib show COUNT.OBJ", {"COUNT.OBJ": COUNTING}),
         'module "CUT.OBJ" members 1': Printed("doslib show CUT.OBJ", {"CUT.OBJ": CUT_PUBLIC}),
         "doslib: CUT.OBJ: 6 Body at place 12": Lines((Said("doslib show CUT.OBJ", 1, {"CUT.OBJ": CUT_PUBLIC}),)),
-    },
-    "docs/LIBRARIES.md": {
-        "doslink -o HELLO.EXE HELLO.OBJ -l CLIB.LIB": Run({"HELLO.OBJ": HELLO, "CLIB.LIB": CLIB}),
-        "tools/library list LIBRARIES                       lists the modules": Untried("it has no file's name"),
-        "$ tools/library list CLIB.LIB": Run({
-            "CLIB.LIB": library(512, filled(PRINTF, 412), filled(module(b"exit"), 129))}),
-        "$ tools/library extract CLIB.LIB printf --into parts": Then(),
+        'missing "_exit": MAIN.OBJ wants it in the record at 00000025': Printed(
+            "doslib names MAIN.OBJ GFX.LIB", {"MAIN.OBJ": DRAWS, "GFX.LIB": library(16, LINE, OLD_LINE)}),
+        "$ doslib make GFX.LIB LINE.OBJ CIRCLE.OBJ": Run({
+            "LINE.OBJ": LINE, "CIRCLE.OBJ": CIRCLE, "FILL.OBJ": FILL}),
+        'doslib: GFX.LIB: 74 NoMember "cirlce"': Lines((
+            Said("doslib delete GFX.LIB cirlce", 1, {"GFX.LIB": library(16, LINE, CIRCLE)}),
+            Said("doslib add MAIN.OBJ LINE.OBJ", 1, {"MAIN.OBJ": DRAWS, "LINE.OBJ": LINE}))),
+        'doslib: warning: GFX.LIB: "_line" is in "line" and in "oldline"': Lines((
+            Said("doslib make GFX.LIB LINE.OBJ OLDLINE.OBJ", 0, {"LINE.OBJ": LINE, "OLDLINE.OBJ": OLD_LINE}),)),
     },
     "examples/README.md": {
         "examples/run": Untried("it wants DOSBox"),

@@ -252,6 +252,14 @@ def of_doslib():
     for name in ODD_NAMES:
         yield Case(f"doslib: {name}", "doslib", ["list", name], {name: files["L.LIB"]})
         yield Case(f"doslib: {name} isn't there", "doslib", ["list", name])
+    first = next(iter(letters))
+    for words in (["make", "NEW.LIB", *letters], ["make", "NEW.LIB", "L.A"], ["make", "L.LIB", first],
+                  ["make", first, "L.A"], ["make", "none/NEW.LIB", first], ["add", "L.LIB", first],
+                  ["add", "L.A", first], ["delete", "L.LIB", "main"], ["delete", "L.LIB", "none"],
+                  ["replace", "L.LIB", first], ["names", *letters], ["names", "--ignore-case", "L.LIB", first]):
+        yield Case(f"doslib: {' '.join(words)}", "doslib", words, files)
+    for name in ("MAIN", "NONE"):
+        yield Case(f"doslib: extract {name}", "doslib", ["extract", "L.LIB", name], {"L.LIB": files["L.LIB"]})
     many = {f"{number}.OBJ": EMPTY for number in range(2000)}
     yield Case("doslib: two thousand words", "doslib", ["list", *many], many)
     yield Case("doslib: much output", "doslib", ["list", "L.LIB"], {"L.LIB": library_of([HELLO] * 2000)})
