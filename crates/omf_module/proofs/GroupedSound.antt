@@ -62,7 +62,7 @@ module _ (ss : List Segment) (gs : List Group) (g : Group) (es : List ExternalSy
 
     base_means : (b : PublicBase) → BaseMeans ss gs es b
         → BaseMeans ss longer es (base_in joined (length gs + 1) b)
-    base_means (public_base.AtFrame own frame) h = h
+    base_means (public_base.AtFrame own frame) h = (h.0, omega (arith, h.1, length-append gs (g ∷ [])))
     base_means (public_base.InSegment own i) h = (
       h.0,
       either (λ n. n ≤ length longer) ((own == 0) && is_member joined (to.Segment i)) (length gs + 1)

@@ -15,6 +15,8 @@ pub mod Together
 pub mod Fitting
 pub mod InPlace
 pub mod DefaultedSound
+pub mod Takable
+pub mod Held
 pub mod Promises
 pub mod Promised
 pub mod Only
@@ -22,3 +24,9 @@ pub mod InOrder
 pub mod Joining
 pub mod GroupedSound
 pub mod GroupedIs
+pub mod LengthsSound
+pub mod JoinedSound
+pub mod Indexed
+pub mod Written
+pub mod Pushing
+pub mod Parted

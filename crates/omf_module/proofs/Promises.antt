@@ -10,15 +10,10 @@ use Rattle.std.proofs.lemmas.Bool.Decides.{nat_tests}
 use Rattle.std.specs.Option.{option_or}
 use Rattle.omf_record.specs.Record.{Record, Public, External as ExternalName, Theadr, Coment, Modend, Extdef, Pubdef}
 use Rattle.omf_record.specs.Record.{Linnum, Lnames, Segdef, Grpdef, Fixupp, Ledata, Lidata}
-use Rattle.omf_record.specs.Language.{each, Word}
-use Rattle.omf_record.specs.Body.{Body, BaseText, AbsoluteText}
-use Rattle.omf_record.specs.inside.Fields.{PublicText}
-use Rattle.omf_record.specs.Numbers.{location_width, segment_len, length_code}
+use Rattle.omf_record.specs.Numbers.{location_width}
 use Rattle.omf_record.specs.Expansion.{expansion, contents, AreCopies}
 use Rattle.omf_record.specs.inside.Fields.{stored_from}
 use Rattle.omf_record.specs.declared.segments.SegmentDefinition.{SegmentDefinition}
-use Rattle.omf_record.specs.declared.segments.SegmentLength.{SegmentLength}
-use Rattle.omf_record.specs.declared.segments.SegmentLength.TheVariants as lengths
 use Rattle.omf_record.specs.declared.segments.Alignment.{Alignment}
 use Rattle.omf_record.specs.declared.segments.Alignment.TheVariants as align
 use Rattle.omf_record.specs.declared.segments.Combination.{Combination}
@@ -38,6 +33,7 @@ use Rattle.omf_module.specs.declared.fault.CheckFault.TheVariants.{FixupPlace, D
 use Rattle.omf_module.specs.declared.fault.CheckFault.TheVariants.{SelfRelativeBase, GroupOfAbsolute}
 use Rattle.omf_module.specs.declared.ResolvedFixup.{ResolvedFixup}
 use Rattle.omf_module.specs.declared.Start.{Start}
+use Rattle.omf_module.specs.Building.{HasShortNames, FitsFields, HasWordFrame, HasWordAndByte}
 use Rattle.omf_module.specs.Module.{Segment, Group, ExternalSymbol, PublicSymbol, DataRecord, Module}
 use Rattle.omf_module.specs.Before.{first, entry}
 use Rattle.omf_module.specs.Tables.{used, name_at, standing_of}
@@ -77,33 +73,33 @@ all_weaker P Q (x ∷ xs) f h = (f x h.0, all_weaker P Q xs f h.1)
 index_more : {X : Type 0} (xs ys : List X) (i : ℕ) → IsIndexOf xs i → IsIndexOf (xs ++ ys) i
 index_more xs ys i h = (h.0, omega (arith, h.1, length-append xs ys))
 
-get_more : {X : Type 0} (xs ys : List X) (i : ℕ) (x : X) → slice_get xs i ≡ Some x → slice_get (xs ++ ys) i ≡ Some x
+pub get_more : {X : Type 0} (xs ys : List X) (i : ℕ) (x : X) → slice_get xs i ≡ Some x → slice_get (xs ++ ys) i ≡ Some x
 get_more [] ys i x e = cc
 get_more (z ∷ xs) ys zero x e = e
 get_more (z ∷ xs) ys (suc i) x e = get_more xs ys i x e
 
 module _ (ss ss' : List Segment) (gs gs' : List Group) (es es' : List ExternalSymbol) where
-  target_more : (f : TargetMethod) → TargetMeans ss gs es f → TargetMeans (ss ++ ss') (gs ++ gs') (es ++ es') f
+  pub target_more : (f : TargetMethod) → TargetMeans ss gs es f → TargetMeans (ss ++ ss') (gs ++ gs') (es ++ es') f
   target_more (to.Segment i) h = index_more ss ss' i h
   target_more (to.Group i) h = index_more gs gs' i h
   target_more (to.External i) h = index_more es es' i h
 
-  frame_more : (f : FrameMethod) → FrameMeans ss gs es f → FrameMeans (ss ++ ss') (gs ++ gs') (es ++ es') f
+  pub frame_more : (f : FrameMethod) → FrameMeans ss gs es f → FrameMeans (ss ++ ss') (gs ++ gs') (es ++ es') f
   frame_more (by.By method) h = target_more method h
   frame_more by.Location h = tt
   frame_more by.Target h = tt
 
-  base_more : (b : PublicBase) → BaseMeans ss gs es b → BaseMeans (ss ++ ss') (gs ++ gs') (es ++ es') b
-  base_more (public_base.AtFrame g f) h = h
+  pub base_more : (b : PublicBase) → BaseMeans ss gs es b → BaseMeans (ss ++ ss') (gs ++ gs') (es ++ es') b
+  base_more (public_base.AtFrame g f) h = (h.0, omega (arith, h.1, length-append gs gs'))
   base_more (public_base.InSegment g i) h = (index_more ss ss' i h.0, omega (arith, h.1, length-append gs gs'))
 
-  part_more : (i : ℕ) (s : Segment) → IsPart ss gs es i s → IsPart (ss ++ ss') (gs ++ gs') (es ++ es') i s
+  pub part_more : (i : ℕ) (s : Segment) → IsPart ss gs es i s → IsPart (ss ++ ss') (gs ++ gs') (es ++ es') i s
   part_more i s h = (get_more ss ss' i s h.0, h.1)
 
-  member_more : (i : ℕ) → IsMember ss gs es i → IsMember (ss ++ ss') (gs ++ gs') (es ++ es') i
+  pub member_more : (i : ℕ) → IsMember ss gs es i → IsMember (ss ++ ss') (gs ++ gs') (es ++ es') i
   member_more i h = (h.0, part_more i h.0 h.1)
 
-  fixup_more : (d : DataRecord) (x : ResolvedFixup) → FixupFits ss gs es d x
+  pub fixup_more : (d : DataRecord) (x : ResolvedFixup) → FixupFits ss gs es d x
       → FixupFits (ss ++ ss') (gs ++ gs') (es ++ es') d x
   fixup_more d x h = record {
     frame = frame_more x.frame h.frame;
@@ -122,11 +118,11 @@ module _ (ss ss' : List Segment) (gs gs' : List Group) (es es' : List ExternalSy
     fixups = all_weaker _ _ d.fixups (fixup_more d) h.fixups;
   }
 
-  start_more : (s : Start) → StartFits ss gs es s → StartFits (ss ++ ss') (gs ++ gs') (es ++ es') s
+  pub start_more : (s : Start) → StartFits ss gs es s → StartFits (ss ++ ss') (gs ++ gs') (es ++ es') s
   start_more s h =
       record { frame = frame_more s.frame h.frame; target = target_more s.target h.target; no_location = h.no_location }
 
-  maybe_start_more : (o : Option Start) → IfSome o (StartFits ss gs es)
+  pub maybe_start_more : (o : Option Start) → IfSome o (StartFits ss gs es)
       → IfSome o (StartFits (ss ++ ss') (gs ++ gs') (es ++ es'))
   maybe_start_more None h = tt
   maybe_start_more (Some s) h = start_more s h
@@ -200,36 +196,18 @@ short_name [] (suc n) h = omega arith
 short_name (x ∷ ns) (suc zero) h = h.0
 short_name (x ∷ ns) (suc (suc n)) h = short_name ns (suc n) h.1
 
-names_short : (listed : List (List ℕ)) (body : List ℕ) → Body (Lnames listed) body → AllByRecursion IsShort listed
-unfolding Body
-names_short [] body h = tt
-names_short (n ∷ listed) body h = (h.first.0, names_short listed h.rest h.second)
-
-externals_short : (local : Bool) (listed : List ExternalName) (body : List ℕ) → Body (Extdef local listed) body
+externals_short : (local : Bool) (listed : List ExternalName)
+    → AllByRecursion (λ (e : ExternalName). IsShort e.name) listed
     → AllByRecursion (λ (e : ExternalSymbol). IsShort e.name) (map (external_of local) listed)
-unfolding Body
-externals_short local [] body h = tt
-externals_short local (n ∷ listed) body h = (h.first.first.0, externals_short local listed h.rest h.second)
+externals_short local [] h = tt
+externals_short local (n ∷ listed) h = (h.0, externals_short local listed h.1)
 
-abbrev AllPublics : List Public → List ℕ → Type 0
-AllPublics = each PublicText
-
-publics_short : (local : Bool) (base : PublicBase) (listed : List Public) (body : List ℕ) → AllPublics listed body
+publics_named : (local : Bool) (base : PublicBase) (listed : List Public)
+    → AllByRecursion (λ (p : Public). IsShort p.name) listed
+    → AllByRecursion (λ (p : Public). p.offset < 65536) listed
     → AllByRecursion (λ (p : PublicSymbol). IsShort p.name × (p.offset < 65536)) (map (public_of local base) listed)
-publics_short local base [] body h = tt
-publics_short local base (n ∷ listed) body h =
-    ((h.first.first.0, h.first.second.first.0), publics_short local base listed h.rest h.second)
-
-publics_named : (local : Bool) (base : PublicBase) (listed : List Public) (body : List ℕ)
-    → Body (Pubdef local base listed) body
-    → AllByRecursion (λ (p : PublicSymbol). IsShort p.name × (p.offset < 65536)) (map (public_of local base) listed)
-unfolding Body
-publics_named local base listed body h = publics_short local base listed h.rest h.second
-
-base_text : (local : Bool) (base : PublicBase) (listed : List Public) (body : List ℕ)
-    → Body (Pubdef local base listed) body → (text : List ℕ) × BaseText base text
-unfolding Body
-base_text local base listed body h = (h.front, h.first)
+publics_named local base [] h k = tt
+publics_named local base (n ∷ listed) h k = ((h.0, k.0), publics_named local base listed h.1 k.1)
 
 -- ---- what each kind of record adds
 
@@ -263,10 +241,10 @@ all_map Q f (x ∷ xs) h = (h x, all_map Q f xs h)
 abbrev with_names : State → List (List ℕ) → State
 with_names s listed = record s { tables = record s.tables { names = s.tables.names ++ listed } }
 
-names_keep : (s : State) (listed : List (List ℕ)) (body : List ℕ) → Body (Lnames listed) body → Promises s
+names_keep : (s : State) (listed : List (List ℕ)) → AllByRecursion IsShort listed → Promises s
     → Promises (with_names s listed)
-names_keep s listed body b h = record {
-  names = all-append _ s.tables.names listed h.names (names_short listed body b);
+names_keep s listed b h = record {
+  names = all-append _ s.tables.names listed h.names b;
   sound = h.sound;
   last = h.last;
 }
@@ -274,33 +252,28 @@ names_keep s listed body b h = record {
 abbrev with_segment : State → Segment → State
 with_segment s x = record s { tables = record s.tables { segments = s.tables.segments ++ x ∷ [] } }
 
-length_fits : (l : SegmentLength) (text : List ℕ) → Word (length_code l).1 text → segment_len l ≤ 65536
-length_fits (lengths.Word n) text h = omega (arith, h.0)
-length_fits lengths.Whole text h = omega arith
+standing_fits : (a : Alignment) (c : Combination) → HasWordAndByte a → IsStanding (standing_of a c)
+standing_fits (align.Absolute frame offset) c h = h
+standing_fits align.Byte c h = (omega arith, omega arith)
+standing_fits align.Word c h = (omega arith, omega arith)
+standing_fits align.Paragraph c h = (omega arith, omega arith)
+standing_fits align.Page c h = (omega arith, omega arith)
+standing_fits align.DoubleWord c h = (omega arith, omega arith)
 
-standing_fits : (a : Alignment) (c : Combination) (text : List ℕ) → AbsoluteText a text → IsStanding (standing_of a c)
-standing_fits (align.Absolute frame offset) c text h = (h.first.0, h.second.0)
-standing_fits align.Byte c text h = (omega arith, omega arith)
-standing_fits align.Word c text h = (omega arith, omega arith)
-standing_fits align.Paragraph c text h = (omega arith, omega arith)
-standing_fits align.Page c text h = (omega arith, omega arith)
-standing_fits align.DoubleWord c text h = (omega arith, omega arith)
-
-segment_fits : (ns : List (List ℕ)) (d : SegmentDefinition) (body : List ℕ) → Body (Segdef d) body
-    → AllByRecursion IsShort ns → SegmentFits (segment_of ns d)
-unfolding Body
-segment_fits ns d body b h = record {
+segment_fits : (ns : List (List ℕ)) (d : SegmentDefinition) → FitsFields (Segdef d) → AllByRecursion IsShort ns
+    → SegmentFits (segment_of ns d)
+segment_fits ns d b h = record {
   name = short_name ns d.name h;
   class = short_name ns d.class h;
-  length = length_fits d.length _ b.second.second.first;
-  standing = standing_fits d.alignment d.combination _ b.second.first;
+  length = b.1;
+  standing = standing_fits d.alignment d.combination b.0;
 }
 
-segment_keeps : (s : State) (d : SegmentDefinition) (body : List ℕ) → Body (Segdef d) body → Promises s
+segment_keeps : (s : State) (d : SegmentDefinition) → FitsFields (Segdef d) → Promises s
     → Promises (with_segment s (segment_of s.tables.names d))
-segment_keeps s d body b h =
+segment_keeps s d b h =
     let x = segment_of s.tables.names d in
-    let all = more (module_in s) (x ∷ []) [] [] h.sound (segment_fits s.tables.names d body b h.names, tt) tt tt tt in
+    let all = more (module_in s) (x ∷ []) [] [] h.sound (segment_fits s.tables.names d b h.names, tt) tt tt tt in
     record { names = h.names; sound = simp append-nil at all; last = h.last }
 
 abbrev with_externals : State → List ExternalSymbol → State
@@ -354,10 +327,11 @@ group_keeps s name is e h =
 
 -- ---- PUBDEF
 
-base_fits : (t : Module) (b : PublicBase) (text : List ℕ) → BaseText b text → public_fault t b ≡ None
+base_fits : (t : Module) (b : PublicBase) → HasWordFrame b → public_fault t b ≡ None
     → BaseMeans t.segments t.groups t.externals b
-base_fits t (public_base.AtFrame group frame) text b e = b.second.second.0
-base_fits t (public_base.InSegment group segment) text b e =
+base_fits t (public_base.AtFrame group frame) b e =
+    (b, not_past t.groups group (when_none (is_beyond t.groups group) GroupIndex e))
+base_fits t (public_base.InSegment group segment) b e =
     let missing = when (misses t.segments segment) SegmentIndex in
     let p = none_or missing (when (is_beyond t.groups group) GroupIndex) e in (
       is_index t.segments segment (when_none (misses t.segments segment) SegmentIndex p.0),
@@ -367,16 +341,15 @@ base_fits t (public_base.InSegment group segment) text b e =
 abbrev with_publics : State → List PublicSymbol → State
 with_publics s ps = record s { publics = s.publics ++ ps }
 
-publics_keep : (s : State) (local : Bool) (base : PublicBase) (listed : List Public) (text : List ℕ)
-    → BaseText base text
+publics_keep : (s : State) (local : Bool) (base : PublicBase) (listed : List Public) → HasWordFrame base
     → AllByRecursion (λ (p : PublicSymbol). IsShort p.name × (p.offset < 65536)) (map (public_of local base) listed)
     → public_fault (module_in s) base ≡ None → Promises s
     → Promises (with_publics s (map (public_of local base) listed))
-publics_keep s local base listed text b n e h =
+publics_keep s local base listed b n e h =
     let m = h.sound in
     let bases =
     all_map (λ (p : PublicSymbol). BaseMeans s.tables.segments s.tables.groups s.tables.externals p.base)
-    (public_of local base) listed (λ p. base_fits (module_in s) base text b e) in
+    (public_of local base) listed (λ p. base_fits (module_in s) base b e) in
     record {
       names = h.names;
       sound = record {
@@ -647,54 +620,53 @@ start_keeps s place r f t e h =
 
 -- ---- one record, and all
 
-record_keeps : (place : ℕ) (s t : State) (r : Record) (body : List ℕ) → Body r body → step_record place s r ≡ Ok t
+record_keeps : (place : ℕ) (s t : State) (r : Record) → HasShortNames r → FitsFields r → step_record place s r ≡ Ok t
     → Promises s → Promises t
 unfolding step_record
-record_keeps place s t (Theadr name) body b e h = subst Promises (ok_is s t e) h
-record_keeps place s t (Coment kind class bytes) body b e h = subst Promises (ok_is s t e) h
-record_keeps place s t (Linnum group segment lines) body b e h = subst Promises (ok_is s t e) h
-record_keeps place s t (Lnames listed) body b e h = subst Promises (ok_is _ t e) (names_keep s listed body b h)
-record_keeps place s t (Segdef d) body b e h =
-    subst Promises (by_fault (segment_fault s.tables.names d) _ t e).1 (segment_keeps s d body b h)
-record_keeps place s t (Grpdef name is) body b e h =
+record_keeps place s t (Theadr name) b f e h = subst Promises (ok_is s t e) h
+record_keeps place s t (Coment kind class bytes) b f e h = subst Promises (ok_is s t e) h
+record_keeps place s t (Linnum group segment lines) b f e h = subst Promises (ok_is s t e) h
+record_keeps place s t (Lnames listed) b f e h = subst Promises (ok_is _ t e) (names_keep s listed b h)
+record_keeps place s t (Segdef d) b f e h =
+    subst Promises (by_fault (segment_fault s.tables.names d) _ t e).1 (segment_keeps s d f h)
+record_keeps place s t (Grpdef name is) b f e h =
     let p = by_fault (group_fault s.tables name is) _ t e in
     let q =
     first_both (when (misses s.tables.names name) NameIndex) (map (λ i. component_fault (entry s.tables.segments i)) is)
     p.0 in
     subst Promises p.1 (group_keeps s name is q.1 h)
-record_keeps place s t (Extdef local listed) body b e h =
+record_keeps place s t (Extdef local listed) b f e h =
     subst Promises (ok_is _ t e)
-    (externals_keep s (map (external_of local) listed) (externals_short local listed body b) h)
-record_keeps place s t (Pubdef local base listed) body b e h =
+    (externals_keep s (map (external_of local) listed) (externals_short local listed b) h)
+record_keeps place s t (Pubdef local base listed) b f e h =
     let p = by_fault (public_fault (module_in s) base) _ t e in
     subst Promises p.1
-    (publics_keep s local base listed (base_text local base listed body b).0 (base_text local base listed body b).1
-    (publics_named local base listed body b) p.0 h)
-record_keeps place s t (Ledata segment offset bytes) body b e h =
+    (publics_keep s local base listed f.0 (publics_named local base listed b f.1) p.0 h)
+record_keeps place s t (Ledata segment offset bytes) b f e h =
     let p = by_fault (data_fault (entry s.tables.segments segment) offset (length bytes)) _ t e in
     subst Promises p.1
     (data_keeps s place segment offset (length bytes) (stored_from 0 bytes) ((0, length bytes) ∷ [])
     (length-stored 0 bytes) (are_copies-stored bytes) p.0 (stored_stand bytes) h)
-record_keeps place s t (Lidata segment offset blocks) body b e h =
+record_keeps place s t (Lidata segment offset blocks) b f e h =
     let p = by_fault (data_fault (entry s.tables.segments segment) offset (length (expansion blocks))) _ t e in
     subst Promises p.1
     (data_keeps s place segment offset (length (expansion blocks)) (expansion blocks) (contents blocks) refl
     (are_copies blocks) p.0 (repeated_stand blocks) h)
-record_keeps place s t (Fixupp subs) body b e h = subrecords_keep place s t subs e h
-record_keeps place s t (Modend main None) body b e h = subst Promises (ok_is s t e) h
-record_keeps place s t (Modend main (Some r)) body b e h =
-    let f = used (slot s.frame_threads) r.frame in
+record_keeps place s t (Fixupp subs) b f e h = subrecords_keep place s t subs e h
+record_keeps place s t (Modend main None) b f e h = subst Promises (ok_is s t e) h
+record_keeps place s t (Modend main (Some r)) b f e h =
+    let m = used (slot s.frame_threads) r.frame in
     let g = used (slot s.target_threads) r.target in
-    let p = by_fault (start_fault (module_in s) f g) _ t e in
-    subst Promises p.1 (start_keeps s place r f g p.0 h)
+    let p = by_fault (start_fault (module_in s) m g) _ t e in
+    subst Promises p.1 (start_keeps s place r m g p.0 h)
 
-pub step_keeps : (place : ℕ) (s t : State) (r : Record) (body : List ℕ) → Body r body → step s place r ≡ Ok t
+pub step_keeps : (place : ℕ) (s t : State) (r : Record) → HasShortNames r → FitsFields r → step s place r ≡ Ok t
     → Promises s → Promises t
 unfolding step
-step_keeps place s t r body b e h =
+step_keeps place s t r b f e h =
     let p = then_ok (checked (opening_fault s.begun r) (record s { begun = true })) (λ u. step_record place u r) t e in
     let q = by_fault (opening_fault s.begun r) (record s { begun = true }) p.0 p.1 in
-    record_keeps place p.0 t r body b p.2
+    record_keeps place p.0 t r b f p.2
     (subst Promises q.1 (record { names = h.names; sound = h.sound; last = h.last }))
 
 pub none_promised : Promises (state_of [])

@@ -9,4 +9,8 @@ pub mod Sound
 pub mod Grouped
 pub mod Reading
 pub mod Defaulted
+pub mod Kept
+pub mod Building
+pub mod Lengths
+pub mod Joined
 pub mod inside

@@ -52,7 +52,7 @@ module _ (segments : List Segment) (groups : List Group) (externals : List Exter
 
   -- so is what a public symbol's offset counts from, or it is a frame word
   abbrev pub BaseMeans : PublicBase → Type 0
-  BaseMeans (AtFrame group frame) = frame < 65536
+  BaseMeans (AtFrame group frame) = (frame < 65536) × (group ≤ length groups)
   BaseMeans (InSegment group segment) = IsIndexOf segments segment × (group ≤ length groups)
 
   -- a segment that a linker places

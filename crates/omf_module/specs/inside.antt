@@ -10,3 +10,4 @@ pub mod Building
 pub mod Reading
 pub mod ModuleFaults
 pub mod Grouping
+pub mod Room

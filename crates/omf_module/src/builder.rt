@@ -20,6 +20,7 @@ ghost use Rattle.std.specs.Prelude.{
   slice_set,
 };
 ghost use Rattle.std.specs.Option.{option_to_list};
+ghost use Rattle.std.specs.List.{AllByRecursion};
 ghost use Rattle.omf_record.specs.Record as says;
 ghost use Rattle.omf_record.specs.View.{external_view, public_view, block_view, view};
 ghost use Rattle.omf_record.specs.Expansion.{expansion, blocks_len, data_len};
@@ -33,9 +34,13 @@ ghost use Rattle.omf_module.specs.inside.Running as running;
 ghost use Rattle.omf_module.specs.inside.Running.{module_in};
 ghost use Rattle.omf_module.specs.Sound.{IsSound};
 ghost use Rattle.omf_module.specs.inside.Building.{Gives, state, contents_of};
+ghost use Rattle.omf_record.specs.Records.{Placed};
+ghost use Rattle.omf_module.specs.Building.{IsTakable, FitsFields, Holds, Adds};
+ghost use Rattle.omf_module.specs.Tables.{module_of};
 
 use crate::checks::{holds_base, is_beyond, misses, smaller, when};
 use crate::contents::{Content, contents_of_blocks, lies_in};
+use crate::entries::DataOrigin;
 use crate::fault::CheckFault;
 use crate::lookups::Module;
 use crate::store::Store;
@@ -76,7 +81,7 @@ pub enum LastData<A: Allocator + Copy> {
 
 /// What is kept of the records so far.
 #[derive(Drop)]
-pub struct Builder<A: Allocator + Copy> {
+pub struct ModuleBuilder<A: Allocator + Copy> {
     begun: bool,
     store: Store<A>,
     frame_threads: [Option<FrameMethod>; 4],
@@ -121,12 +126,13 @@ fn add_publics<A: Allocator + Copy>(
     base: PublicBase,
     publics: &[Public<'_>],
 ) -> Result<(), AllocError>
-    ensures { OnOk result
+    ensures kept { OnOk result
         (store.new
         ≡ record store.old {
           publics = store.old.publics
               ++ map (defined.public_of local base) (map public_view publics.now);
         }) }
+    ensures fits { OnOk result (AllByRecursion (λ p. p.offset < 65536) (map public_view publics.now)) }
 {
     for public in publics {
         store.push_public(public.name, base, public.offset, local)?;
@@ -241,7 +247,7 @@ impl<A: Allocator + Copy> LastData<A> {
     }
 }
 
-impl<A: Allocator + Copy> Builder<A> {
+impl<A: Allocator + Copy> ModuleBuilder<A> {
     /// The fault of an index that has to mean a segment.
     fn segment_index(&self, index: u16) -> Option<CheckFault>
         ensures { result
@@ -369,15 +375,16 @@ impl<A: Allocator + Copy> Builder<A> {
 
     /// Takes SEGDEF.
     #[tactic(auto, unfolding(crate::specs::inside::Running::step_record))]
-    fn add_segment(&mut self, place: u64, definition: &SegmentDefinition) -> Result<(), AddFault>
-        ensures { Gives (λ _. state self.new) result
-            (running.step_record place (state self.old) (says.Segdef definition.now)) }
+    fn add_segment(&mut self, place: u64, definition: SegmentDefinition) -> Result<(), AddFault>
+        ensures gives { Gives (λ _. state self.new) result
+            (running.step_record place (state self.old) (says.Segdef definition)) }
+        ensures fits { OnOk result (FitsFields (says.Segdef definition)) }
     {
         let names = self.store.name_count();
         if is_beyond(names, definition.name) || is_beyond(names, definition.class) {
             return Err(AddFault::Check(CheckFault::NameIndex));
         }
-        self.store.push_segment(definition)?;
+        self.store.push_segment(&definition)?;
         Ok(())
     }
 
@@ -438,8 +445,9 @@ impl<A: Allocator + Copy> Builder<A> {
         base: PublicBase,
         publics: &[Public<'_>],
     ) -> Result<(), AddFault>
-        ensures { Gives (λ _. state self.new) result
+        ensures gives { Gives (λ _. state self.new) result
             (running.step_record place (state self.old) (says.Pubdef local base (map public_view publics.now))) }
+        ensures fits { OnOk result (FitsFields (says.Pubdef local base (map public_view publics.now))) }
     {
         if let Some(fault) = self.public_fault(base) {
             return Err(AddFault::Check(fault));
@@ -450,24 +458,17 @@ impl<A: Allocator + Copy> Builder<A> {
 
     /// Takes LEDATA.
     #[tactic(auto, unfolding(crate::specs::inside::Running::step_record))]
-    fn add_bytes(
-        &mut self,
-        alloc: A,
-        place: u64,
-        segment: u16,
-        offset: u16,
-        bytes: &[u8],
-    ) -> Result<(), AddFault>
+    fn add_bytes(&mut self, alloc: A, origin: DataOrigin, bytes: &[u8]) -> Result<(), AddFault>
         requires { length bytes.now ≤ 65534 }
         ensures { Gives (λ _. state self.new) result
-            (running.step_record place (state self.old) (says.Ledata segment offset bytes.now)) }
+            (running.step_record origin.place (state self.old)
+            (says.Ledata origin.segment origin.offset bytes.now)) }
     {
         let len = bytes.len() as u32;
-        if let Some(fault) = self.store.data_fault(segment, offset, len) {
+        if let Some(fault) = self.store.data_fault(origin.segment, origin.offset, len) {
             return Err(AddFault::Check(fault));
         }
-        self.store
-            .push_bytes(alloc, place, segment.saturating_sub(1), offset, bytes)?;
+        self.store.push_bytes(alloc, origin.from_zero(), bytes)?;
         self.last_data = LastData::Stored(bytes.len());
         Ok(())
     }
@@ -494,28 +495,21 @@ impl<A: Allocator + Copy> Builder<A> {
     fn add_blocks(
         &mut self,
         alloc: A,
-        place: u64,
-        segment: u16,
-        offset: u16,
+        origin: DataOrigin,
         blocks: &[Block<'_, A>],
     ) -> Result<(), AddFault>
         requires { blocks_len (map block_view blocks.now) ≤ 65534 }
         ensures { Gives (λ _. state self.new) result
-            (running.step_record place (state self.old) (says.Lidata segment offset (map block_view blocks.now))) }
+            (running.step_record origin.place (state self.old)
+            (says.Lidata origin.segment origin.offset (map block_view blocks.now))) }
     {
         let count = expanded_len(blocks);
-        if let Some(fault) = self.store.data_fault(segment, offset, count) {
+        if let Some(fault) = self.store.data_fault(origin.segment, origin.offset, count) {
             return Err(AddFault::Check(fault));
         }
         let contents = contents_of_blocks(alloc, blocks)?;
-        self.store.push_blocks(
-            alloc,
-            place,
-            segment.saturating_sub(1),
-            offset,
-            count as usize,
-            blocks,
-        )?;
+        self.store
+            .push_blocks(alloc, origin.from_zero(), count as usize, blocks)?;
         self.last_data = LastData::Repeated(contents);
         Ok(())
     }
@@ -524,12 +518,14 @@ impl<A: Allocator + Copy> Builder<A> {
     #[tactic(auto, unfolding(crate::specs::inside::Running::step_record, omf_record::specs::View::view, omf_record::specs::Expansion::data_len))]
     fn add_record(&mut self, alloc: A, place: u64, record: &Record<'_, A>) -> Result<(), AddFault>
         requires { data_len (view «record».now) ≤ 65534 }
-        ensures { Gives (λ _. state self.new) result (running.step_record place (state self.old) (view «record».now)) }
+        ensures gives { Gives (λ _. state self.new) result
+            (running.step_record place (state self.old) (view «record».now)) }
+        ensures fits { OnOk result (FitsFields (view «record».now)) }
     {
         match record {
             Record::Theadr { .. } | Record::Coment { .. } | Record::Linnum { .. } => Ok(()),
             Record::Lnames { names } => Ok(add_names(&mut self.store, names)?),
-            Record::Segdef { segment } => self.add_segment(place, segment),
+            Record::Segdef { segment } => self.add_segment(place, *segment),
             Record::Grpdef { name, segments } => self.add_group(alloc, place, *name, segments),
             Record::Extdef { local, names } => Ok(add_externals(&mut self.store, *local, names)?),
             Record::Pubdef {
@@ -541,12 +537,12 @@ impl<A: Allocator + Copy> Builder<A> {
                 segment,
                 offset,
                 bytes,
-            } => self.add_bytes(alloc, place, *segment, *offset, bytes),
+            } => self.add_bytes(alloc, DataOrigin::new(place, *segment, *offset), bytes),
             Record::Lidata {
                 segment,
                 offset,
                 blocks,
-            } => self.add_blocks(alloc, place, *segment, *offset, blocks),
+            } => self.add_blocks(alloc, DataOrigin::new(place, *segment, *offset), blocks),
             Record::Fixupp { subrecords } => self.add_subrecords(place, subrecords),
             Record::Modend { start: None, .. } => Ok(()),
             Record::Modend {
@@ -558,9 +554,16 @@ impl<A: Allocator + Copy> Builder<A> {
 
     /// Takes one more record. What is kept stands for the records so far and this one, or the record has this fault.
     #[tactic(auto, unfolding(crate::specs::inside::Running::step))]
-    pub fn add(&mut self, alloc: A, place: u64, record: &Record<'_, A>) -> Result<(), AddFault>
+    pub(crate) fn take(
+        &mut self,
+        alloc: A,
+        place: u64,
+        record: &Record<'_, A>,
+    ) -> Result<(), AddFault>
         requires { data_len (view «record».now) ≤ 65534 }
-        ensures { Gives (λ _. state self.new) result (running.step (state self.old) place (view «record».now)) }
+        ensures gives { Gives (λ _. state self.new) result
+            (running.step (state self.old) place (view «record».now)) }
+        ensures fits { OnOk result (FitsFields (view «record».now)) }
     {
         if let Some(fault) = header_fault(self.begun, record) {
             return Err(AddFault::Check(fault));
@@ -569,11 +572,27 @@ impl<A: Allocator + Copy> Builder<A> {
         self.add_record(alloc, place, record)
     }
 
-    /// What is kept of no record.
-    pub fn new(alloc: A) -> Builder<A>
-        ensures { state result ≡ running.state_of [] }
+    /// The module of what is kept.
+    pub(crate) fn into_module(self) -> Module<A>
+        requires { IsSound (running.module_in (state self)) }
+        ensures { result ≡ running.module_in (state self) }
     {
-        Builder {
+        let ModuleBuilder {
+            begun: _,
+            store,
+            frame_threads: _,
+            target_threads: _,
+            last_data: _,
+            start,
+        } = self;
+        Module::from_parts(store, start)
+    }
+
+    /// A builder that holds no record.
+    pub fn new(alloc: A) -> ModuleBuilder<A>
+        ensures { Holds [] result }
+    {
+        ModuleBuilder {
             begun: false,
             store: Store::new(alloc),
             frame_threads: [None, None, None, None],
@@ -583,19 +602,24 @@ impl<A: Allocator + Copy> Builder<A> {
         }
     }
 
-    /// The module that the records so far say.
-    pub fn finish(self) -> Module<A>
-        requires { IsSound (running.module_in (state self)) }
-        ensures { result ≡ running.module_in (state self) }
+    /// Takes one more record, which begins at this place, behind those that the builder holds. The place is one of a
+    /// file: it goes into what the record adds, and is only told.
+    ///
+    /// `Check` is the first fault that a module would have with the record behind these. After an `Err` nothing is said
+    /// of what the builder holds, and it is to be let go.
+    pub fn add(&mut self, alloc: A, place: u64, record: &Record<'_, A>) -> Result<(), AddFault>
+        requires { IsTakable (view «record».now) }
+        ensures { (records : List Placed) (body : List ℕ) → Holds records self.old
+            → Adds records (record { place = place; body = body; says = view «record».now }) self.new result }
     {
-        let Builder {
-            begun: _,
-            store,
-            frame_threads: _,
-            target_threads: _,
-            last_data: _,
-            start,
-        } = self;
-        Module::from_parts(store, start)
+        self.take(alloc, place, record)
+    }
+
+    /// The module that the records say.
+    pub fn finish(self) -> Module<A>
+        requires { (records : List Placed) × Holds records self }
+        ensures { (records : List Placed) → Holds records self → result ≡ module_of records }
+    {
+        self.into_module()
     }
 }

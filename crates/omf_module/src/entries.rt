@@ -1,6 +1,7 @@
 //! What a store keeps of each element of a module's tables: its names and data as pieces, and the rest of it.
-ghost use Rattle.std.specs.Prelude.{◌≡◌, ◌-◌, ℕ, ◌∷◌, [], List, length, map, slice_get, OnOk, IfOk};
+ghost use Rattle.std.specs.Prelude.{◌≡◌, ◌-◌, ◌≤◌, ℕ, ◌∷◌, [], List, length, map, slice_get, OnOk, IfOk};
 ghost use Rattle.std.specs.List.{AllByRecursion};
+ghost use Rattle.omf_record.specs.Numbers.{segment_len};
 ghost use Rattle.omf_module.specs.Tables as tables;
 ghost use Rattle.omf_module.specs.inside.Entries as defined;
 ghost use Rattle.omf_module.specs.inside.Store as stored;
@@ -41,6 +42,38 @@ pub struct PublicEntry {
     pub local: bool,
 }
 
+/// Where the data of a record begins: the record's place, and the segment with the offset in it.
+#[derive(Clone, Copy, Debug)]
+pub struct DataOrigin {
+    pub place: u64,
+    /// In a record its index, from 1; in a store counted from 0.
+    pub segment: u16,
+    pub offset: u16,
+}
+
+impl DataOrigin {
+    /// At a place, and at an offset in a segment.
+    pub fn new(place: u64, segment: u16, offset: u16) -> DataOrigin
+        ensures { result ≡ record { place = place; segment = segment; offset = offset } }
+    {
+        DataOrigin {
+            place,
+            segment,
+            offset,
+        }
+    }
+
+    /// The same with its segment counted from 0, where it was from 1.
+    pub fn from_zero(self) -> DataOrigin
+        ensures { result ≡ record self { segment = self.segment - 1 } }
+    {
+        DataOrigin {
+            segment: self.segment.saturating_sub(1),
+            ..self
+        }
+    }
+}
+
 #[derive(Drop)]
 pub struct DataEntry<A: Allocator + Copy> {
     pub place: u64,
@@ -61,6 +94,18 @@ impl<A: Allocator + Copy> DataEntry<A> {
             from: self.places_from,
             len: self.bytes.len,
         }
+    }
+}
+
+/// A length of at most 65,536 bytes.
+pub fn length_of(bytes: u32) -> SegmentLength
+    requires { bytes ≤ 65536 }
+    ensures { segment_len result ≡ bytes }
+{
+    if bytes < 65_536 {
+        SegmentLength::Word(bytes as u16)
+    } else {
+        SegmentLength::Whole
     }
 }
 

@@ -1,7 +1,11 @@
 //! Laws of the definitions, each the contract of a function that does nothing.
-ghost use Rattle.std.specs.Prelude.{◌≡◌, ◌++◌, ℕ, List};
+ghost use Rattle.std.specs.Prelude.{◌≡◌, ◌++◌, ◌≤◌, ℕ, List};
+ghost use Rattle.omf_record.specs.Body.{BodyOf};
+ghost use Rattle.omf_record.specs.Expansion.{data_len};
+ghost use Rattle.omf_record.specs.Record.{Record};
 ghost use Rattle.omf_record.specs.Records.{Placed};
 ghost use Rattle.omf_module.specs.declared.fault.FaultKind.{FaultKind};
+ghost use Rattle.omf_module.specs.Building.{IsTakable};
 ghost use Rattle.omf_module.specs.Bytes.{ModuleBytes, ReadingFault};
 
 /// Bytes begin with at most one whole sound module.
@@ -20,4 +24,9 @@ pub fn no_fault()
 pub fn one_fault()
     ensures { (bytes : List ℕ) (p q : ℕ) (f g : FaultKind) → ReadingFault bytes p f → ReadingFault bytes q g → (p ≡ q)
         × (f ≡ g) }
+{}
+
+/// A builder takes each record that is read from a frame.
+pub fn read_is_takable()
+    ensures { (kind : ℕ) (r : Record) (body : List ℕ) → BodyOf kind r body → data_len r ≤ 65534 → IsTakable r }
 {}

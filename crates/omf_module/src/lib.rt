@@ -4,26 +4,33 @@
 mod builder;
 mod checks;
 mod contents;
+mod declarations;
 mod defaulting;
 mod entries;
 mod fault;
 mod grouping;
 mod laws;
+mod lengths;
 mod lookups;
 mod pieces;
 mod reading;
+mod starting;
 mod store;
 
+pub use builder::{AddFault, ModuleBuilder};
+pub use declarations::with_declarations;
 pub use defaulting::{are_externals, redirect_externals};
 pub use fault::{CheckFault, FaultKind, ModuleFault};
 pub use grouping::group_class;
-pub use laws::{no_fault, one_fault, one_module};
+pub use laws::{no_fault, one_fault, one_module, read_is_takable};
+pub use lengths::with_lengths;
 pub use lookups::{
     DataRecord, DataRecords, ExternalSymbol, Externals, Group, Groups, Module, PublicSymbol,
     Publics, Segment, Segments, all_promise,
 };
 use omf_record::{FrameMethod, Location, TargetMethod};
 pub use reading::read_module;
+pub use starting::without_start;
 
 /// How the parts of a segment combine.
 #[derive(Clone, Copy, Debug)]

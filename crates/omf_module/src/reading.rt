@@ -10,7 +10,7 @@ ghost use Rattle.omf_module.specs.Reading.{failures_in, Reads, IsModule, IsFault
 ghost use Rattle.omf_module.specs.inside.Reading.{TakesRecord};
 ghost use Rattle.omf_module.specs.inside.ModuleFaults as module_fault;
 
-use crate::builder::{AddFault, Builder};
+use crate::builder::{AddFault, ModuleBuilder};
 use crate::fault::{FaultKind, ModuleFault};
 use crate::lookups::Module;
 use omf_frame::{Frame, FrameBuf, FrameFault, Source};
@@ -68,7 +68,7 @@ fn is_end<A: Allocator + Copy>(record: &Record<'_, A>) -> bool
 /// Takes the record of a frame, and says whether it is MODEND.
 fn take_record<'a, A: Allocator + Copy + 'a>(
     alloc: A,
-    builder: &mut Builder<A>,
+    builder: &mut ModuleBuilder<A>,
     frame: &Frame<'a>,
 ) -> Result<bool, ModuleFault>
     ensures { TakesRecord frame.now.kind frame.now.body.now frame.now.place (state builder.old)
@@ -77,7 +77,7 @@ fn take_record<'a, A: Allocator + Copy + 'a>(
     let place = frame.place;
     let record = parse_record(alloc, frame).map_err(|fault| parse_fault(place, fault))?;
     builder
-        .add(alloc, place, &record)
+        .take(alloc, place, &record)
         .map_err(|fault| add_fault(place, fault))?;
     Ok(is_end(&record))
 }
@@ -92,7 +92,7 @@ fn read_records<A: Allocator + Copy, S: Source>(
     ensures reads { Reads (λ m. m) (S.remaining source.old) (S.remaining source.new) result }
 {
     let mut buf = FrameBuf::new(alloc)?;
-    let mut builder = Builder::new(alloc);
+    let mut builder = ModuleBuilder::new(alloc);
     let mut place = 0u64;
     loop {
         let frame = match buf.next_record(source) {
@@ -106,7 +106,7 @@ fn read_records<A: Allocator + Copy, S: Source>(
             Err(fault) => return Err(read_fault(fault)),
         };
         if take_record(alloc, &mut builder, &frame)? {
-            return Ok(builder.finish());
+            return Ok(builder.into_module());
         }
         place = frame.place + frame.body.len() as u64 + 4;
     }

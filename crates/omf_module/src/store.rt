@@ -27,6 +27,9 @@ ghost use Rattle.omf_module.specs.Defaulted as defaulted;
 ghost use Rattle.omf_module.specs.inside.Entries as defined;
 ghost use Rattle.omf_module.specs.Faults as faults;
 ghost use Rattle.omf_module.specs.Grouped as grouped;
+ghost use Rattle.omf_module.specs.Lengths as relengthened;
+ghost use Rattle.omf_module.specs.Sound.{SegmentFits};
+ghost use Rattle.std.specs.List.{AllByRecursion, enumerate_from};
 ghost use Rattle.omf_module.specs.Seen.{segment_seen, group_seen, external_seen, public_seen, data_seen};
 ghost use Rattle.omf_module.specs.inside.Running.{add_to_last};
 
@@ -34,11 +37,12 @@ use crate::ResolvedFixup;
 use crate::checks::{entry, is_absolute, when};
 use crate::defaulting::redirect_data;
 use crate::entries::{
-    DataEntry, ExternalEntry, GroupEntry, PublicEntry, SegmentEntry, fix_last, group_entry,
-    last_places, segment_entry,
+    DataEntry, DataOrigin, ExternalEntry, GroupEntry, PublicEntry, SegmentEntry, fix_last,
+    group_entry, last_places, length_of, segment_entry,
 };
 use crate::fault::CheckFault;
 use crate::grouping::{group_data, group_publics};
+use crate::lengths::set_lengths;
 use crate::lookups::{DataRecord, ExternalSymbol, Group, PublicSymbol, Segment};
 use crate::pieces::{Piece, keep, keep_expansion, keep_once, lend, rising_piece};
 use omf_record::{Block, PublicBase, SegmentDefinition, SegmentLength};
@@ -247,6 +251,23 @@ impl<A: Allocator + Copy> Store<A> {
         Ok(())
     }
 
+    /// One more segment, as it is.
+    pub fn push_part(&mut self, segment: Segment<'_>) -> Result<(), AllocError>
+        requires { segment.length ≤ 65536 }
+        ensures { OnOk result
+            (self.new ≡ record self.old { segments = self.old.segments ++ segment_seen segment.entry ∷ [] }) }
+    {
+        let name = keep(&mut self.bytes, segment.name)?;
+        let class = keep(&mut self.bytes, segment.class)?;
+        self.segments.push(SegmentEntry {
+            name,
+            class,
+            length: length_of(segment.length),
+            standing: segment.standing,
+        })?;
+        Ok(())
+    }
+
     /// One more part of a group. The components count from 1, and the group's members from 0.
     pub fn push_group(&mut self, alloc: A, name: u16, components: &[u16]) -> Result<(), AllocError>
         ensures { OnOk result
@@ -317,17 +338,15 @@ impl<A: Allocator + Copy> Store<A> {
     pub fn push_bytes(
         &mut self,
         alloc: A,
-        place: u64,
-        segment: u16,
-        offset: u16,
+        origin: DataOrigin,
         bytes: &[u8],
     ) -> Result<(), AllocError>
         requires { length bytes.now ≤ 65536 }
         ensures { OnOk result (self.new ≡ record self.old {
           data_records = self.old.data_records ++ record {
-            place = place;
-            segment = segment;
-            offset = offset;
+            place = origin.place;
+            segment = origin.segment;
+            offset = origin.offset;
             pairs = stored_from 0 bytes.now;
             fixups = [];
           } ∷ [];
@@ -336,9 +355,9 @@ impl<A: Allocator + Copy> Store<A> {
         self.rising = rising_piece(&mut self.places, self.rising, bytes.len())?;
         let bytes = keep(&mut self.bytes, bytes)?;
         self.data_records.push(DataEntry {
-            place,
-            segment,
-            offset,
+            place: origin.place,
+            segment: origin.segment,
+            offset: origin.offset,
             bytes,
             places_from: self.rising.from,
             fixups: Vec::new(alloc),
@@ -350,9 +369,7 @@ impl<A: Allocator + Copy> Store<A> {
     pub fn push_blocks(
         &mut self,
         alloc: A,
-        place: u64,
-        segment: u16,
-        offset: u16,
+        origin: DataOrigin,
         len: usize,
         blocks: &[Block<'_, A>],
     ) -> Result<(), AllocError>
@@ -361,9 +378,9 @@ impl<A: Allocator + Copy> Store<A> {
         requires short { blocks_len (map block_view blocks.now) ≤ 65534 }
         ensures { OnOk result (self.new ≡ record self.old {
           data_records = self.old.data_records ++ record {
-            place = place;
-            segment = segment;
-            offset = offset;
+            place = origin.place;
+            segment = origin.segment;
+            offset = origin.offset;
             pairs = expansion (map block_view blocks.now);
             fixups = [];
           } ∷ [];
@@ -378,9 +395,9 @@ impl<A: Allocator + Copy> Store<A> {
         let before = last_places(&self.data_records);
         let places_from = keep_once(&mut self.places, places_from, before);
         self.data_records.push(DataEntry {
-            place,
-            segment,
-            offset,
+            place: origin.place,
+            segment: origin.segment,
+            offset: origin.offset,
             bytes,
             places_from,
             fixups: Vec::new(alloc),
@@ -395,6 +412,16 @@ impl<A: Allocator + Copy> Store<A> {
         } }
     {
         redirect_data(&mut self.data_records, meanings);
+    }
+
+    /// Gives the segments other lengths, where they are told.
+    pub fn set_lengths(&mut self, lengths: &[Option<u16>])
+        ensures says { self.new ≡ record self.old {
+          segments = map (relengthened.with_length lengths.now) (enumerate_from 0 self.old.segments);
+        } }
+        ensures fits { AllByRecursion SegmentFits self.old.segments → AllByRecursion SegmentFits self.new.segments }
+    {
+        set_lengths(&mut self.segments, lengths);
     }
 
     /// One more fix-up on the last data record, where there is one.

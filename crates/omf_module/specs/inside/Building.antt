@@ -1,20 +1,13 @@
 -- What a builder keeps, as a plain state.
-use Rattle.std.specs.Prelude.{◌≡◌, ℕ, List, [], ◌∷◌, map, Option, Some, None, Result, Ok, Err}
+use Rattle.std.specs.Prelude.{◌≡◌, Result, Ok, Err}
 use Rattle.omf_module.specs.declared.fault.CheckFault.{CheckFault}
 use Rattle.omf_module.specs.declared.builder.AddFault.{AddFault}
 use Rattle.omf_module.specs.declared.builder.AddFault.TheVariants as adds
-use Rattle.omf_module.specs.declared.builder.LastData.{LastData}
-use Rattle.omf_module.specs.declared.builder.LastData.TheVariants.{Absent, Stored, Repeated}
-use Rattle.omf_module.specs.declared.builder.Builder.{Builder}
-use Rattle.omf_module.specs.inside.Contents.{pair}
+use Rattle.omf_module.specs.declared.builder.ModuleBuilder.{ModuleBuilder}
+pub use Rattle.omf_module.specs.Building.{contents_of}
 use Rattle.omf_module.specs.inside.Running.{State}
 
-abbrev pub contents_of : {A : Type 0} → LastData A → Option (List (ℕ × ℕ))
-contents_of Absent = None
-contents_of (Stored len) = Some ((0, len) ∷ [])
-contents_of (Repeated contents) = Some (map pair contents.items)
-
-abbrev pub state : {A : Type 0} → Builder A → State
+abbrev pub state : {A : Type 0} → ModuleBuilder A → State
 state builder = record {
   begun = builder.begun;
   tables =

@@ -9,15 +9,8 @@ use Rattle.omf_module.specs.declared.entries.PublicEntry.{PublicEntry}
 use Rattle.omf_module.specs.declared.entries.DataEntry.{DataEntry}
 use Rattle.omf_module.specs.Module.{Segment, Group, ExternalSymbol, PublicSymbol, DataRecord}
 use Rattle.omf_record.specs.Numbers.{segment_len}
-
--- the tables of a module, as its records fill them
-pub record Kept : Type 0 where
-  pub names : List (List ℕ)
-  pub segments : List Segment
-  pub groups : List Group
-  pub externals : List ExternalSymbol
-  pub publics : List PublicSymbol
-  pub data_records : List DataRecord
+-- the tables of a module
+pub use Rattle.omf_module.specs.Kept.{Kept}
 
 -- the piece of a list that begins at `from` and has `len` elements
 abbrev pub elements : {X : Type 0} → List X → Piece → List X

@@ -10,6 +10,7 @@ use Rattle.omf_frame.proofs.Told.{at_some}
 use Rattle.omf_frame.specs.declared.frame.Frame.{Frame}
 use Rattle.omf_frame.specs.declared.reading.FrameFault.{FrameFault}
 use Rattle.omf_module.specs.inside.Building.{state}
+use Rattle.omf_module.proofs.Held.{state_is}
 use Rattle.omf_module.proofs.Taking.{begun}
 use Rattle.omf_module.proofs.Answering.{no_memory, no_end, frame_stopped, refuses, ends, ends_sound, goes_on}
 use Rattle.omf_module.proofs.reading.read_records.Goals as goal
@@ -20,8 +21,15 @@ returns-in_err-buf-clause-reads g c =
     rw (p.1, p.2) (no_memory (g.S.Source.remaining c.args.source.now))
 
 pub loop-frame-init : goal.loop-frame-init
-loop-frame-init g c =
-    ([], [], begun (g.S.Source.remaining c.args.source.now), refl, c.in_ok-buf.ensures, c.new-builder.ensures, refl)
+loop-frame-init g c = (
+  [],
+  [],
+  begun (g.S.Source.remaining c.args.source.now),
+  refl,
+  c.in_ok-buf.ensures,
+  state_is [] c.new-builder.result c.new-builder.ensures.keeps,
+  refl,
+)
 
 pub returns-in-Ok-None-clause-reads : goal.returns-in-Ok-None-clause-reads
 returns-in-Ok-None-clause-reads g c =
@@ -66,8 +74,8 @@ returns-in_err-take_record-clause-reads g c =
     (rw (← here.1) at exact) c.in-Ok-Some.ensures.stands (state c.loop-frame.builder) kept
     (state c.take_record.new.builder) c.in_err-take_record.field-0.0 c.in_err-take_record.ensures)
 
-pub finish-requires : goal.finish-requires
-finish-requires g c =
+pub into_module-requires : goal.into_module-requires
+into_module-requires g c =
     let (rs, front, took, at, held, kept, _) = c.loop-frame.invariant in
     let place = c.loop-frame.place in
     let told = g.S.Source.remaining c.loop-frame.source in
@@ -100,7 +108,7 @@ returns-then-branch-clause-reads g c =
     let takes = rw c.if-branch.true at c.in_ok-take_record.ensures in
     ends rs front _ told _ took (plain_frame f) framed.0 (here.1 ∙ at) below framed.1 framed.2 (rw (← here.1) at exact)
     c.in-Ok-Some.ensures.stands (state c.loop-frame.builder) kept (state c.take_record.new.builder) _ takes
-    c.finish.ensures
+    c.into_module.ensures
 
 pub loop-frame-preserved : goal.loop-frame-preserved
 loop-frame-preserved g c =

@@ -18,5 +18,5 @@ returns g c = (
   view c.in_ok-record.record,
   search rules,
   sym c.is_end.ensures,
-  given (state c.add.new.self) c.add.result _ _ _ c.in_ok-map_err.ensures.cases (λ e q. q) c.add.ensures,
+  given (state c.take.new.self) c.take.result _ _ _ c.in_ok-map_err.ensures.cases (λ e q. q) c.take.ensures.gives,
 )

@@ -118,6 +118,11 @@ returns g c =
     ∙ ap (λ (k : Kept). record k {
       data_records =
           k.data_records
-          ++ record { place = c.args.place; segment = c.args.segment; offset = c.args.offset; pairs = ps; fixups = [] }
-          ∷ [];
+          ++ record {
+            place = c.args.origin.place;
+            segment = c.args.origin.segment;
+            offset = c.args.origin.offset;
+            pairs = ps;
+            fixups = [];
+          } ∷ [];
     }) c.self.view_is)

@@ -62,9 +62,9 @@ returns g c =
       data_records =
           k.data_records
           ++ record {
-            place = c.args.place;
-            segment = c.args.segment;
-            offset = c.args.offset;
+            place = c.args.origin.place;
+            segment = c.args.origin.segment;
+            offset = c.args.origin.offset;
             pairs = zip (range_with_len 0 (length c.args.bytes.now)) c.args.bytes.now;
             fixups = [];
           } ∷ [];
