@@ -1,5 +1,5 @@
 -- How blocks are read, from the answers of their heads and of the blocks in them.
-use Rattle.std.proofs.Common.{◌≡◌, ℕ, suc, ◌-◌, ◌<◌, ◌⊎◌, inl, inr, List, [], ◌∷◌, ◌++◌, length, Bor, Option}
+use Rattle.std.proofs.Common.{◌≡◌, ℕ, suc, ◌-◌, ◌<◌, ◌≤◌, ◌⊎◌, inl, inr, List, [], ◌∷◌, ◌++◌, length, Bor, Option}
 use Rattle.std.proofs.Common.{Some, None, refl, sym, ap, subst, ◌∙◌, append_assoc, append-nil, arith}
 use Rattle.std.specs.Prelude.{replicate, is_some, IsTrue, IsFalse}
 use Rattle.std.proofs.lemmas.List.{length-append}
@@ -20,7 +20,7 @@ use Rattle.omf_codec.specs.inside.PrimitiveLaws.{index}
 use Rattle.omf_extended.proofs.Faults.{body_fault}
 use Rattle.omf_extended.proofs.Layouts.{lidata_body}
 use Rattle.omf_extended.specs.Answer.{Stands}
-use Rattle.omf_extended.specs.Body.{WideBlockText}
+use Rattle.omf_extended.specs.Body.{RepeatedText, WideBlockText}
 use Rattle.omf_extended.specs.declared.fault.ExtendedFault.TheVariants.{Body}
 use Rattle.omf_extended.specs.inside.Repeated.{lidata_blank, block_filled}
 use Rattle.omf_extended.specs.inside.Repeated.{head, head_lawful, leaf, block, inner, Parts, content_to, block_to}
@@ -149,25 +149,6 @@ leaf_err =
     (λ bytes h y text rest m u e. let (x, l) = leaf_from y text m in h x text rest l tt e)
     (λ front (n, x, l). (n, Content x.0 x.1.1, leaf_to x (front ++ replicate n 0) l))
 
--- ---- the bytes behind a block
-
-pub leaf_skips : (bytes : List ℕ) (x : ℕ × ((ℕ × ℕ) × List ℕ)) (rest : List ℕ) → Found leaf bytes x rest
-    → (b : Block) × Found (block 0) bytes b rest
-leaf_skips bytes x rest f = (Content x.0 x.1.1, leaf_found bytes x rest f)
-
-pub content_skips : (below : ℕ) (bytes : List ℕ) (h : ℕ × (ℕ × Option (Bor (List ℕ)))) (rest : List ℕ)
-    → IsTrue (is_some h.1.1) → Found head bytes (head.view h) rest → (b : Block) × Found (block below) bytes b rest
-content_skips below bytes (repeat, (n, Some s)) rest t f =
-    (Content repeat s.now, content_found below bytes repeat n s.now rest f)
-content_skips below bytes (repeat, (n, None)) rest t f = absurd (grind (arith, t))
-
-pub nested_skips : (below : ℕ) → 0 < below → (bytes : List ℕ) (h : ℕ × (ℕ × Option (Bor (List ℕ)))) (rest : List ℕ)
-    (xs : List Block) (after : List ℕ) → IsFalse (is_some h.1.1) → Found head bytes (head.view h) rest
-    → length xs ≡ h.1.0 → SoFar (block (below - 1)) rest xs after → (b : Block) × Found (block below) bytes b after
-nested_skips below some bytes (repeat, (n, None)) rest xs after t f len s =
-    (Nested repeat (blocks_of xs), nested_found below some bytes repeat n rest xs after f len s)
-nested_skips below some bytes (repeat, (n, Some x)) rest xs after t f len s = absurd (grind (arith, t))
-
 -- ---- blocks to the end
 
 -- a block has bytes
@@ -178,6 +159,13 @@ behind_shorter bytes b rest f =
     omega (arith, some, ap length f.parts, length-append f.front rest)
 
 -- the blocks go up to the end
+-- the bytes are these blocks
+pub content_blocks : (bytes : List ℕ) (xs : List Block) (rest : List ℕ) → SoFar (block 63) bytes xs rest → rest ≡ []
+    → each (WideBlockText 63) xs bytes
+content_blocks bytes xs rest s e =
+    subst (each (WideBlockText 63) xs) (sym (s.parts ∙ ap (λ (t : List ℕ). s.front ++ t) e ∙ append-nil s.front))
+    s.spelled
+
 pub content_done : (bytes : List ℕ) (xs : List Block) (rest : List ℕ) → SoFar (block 63) bytes xs rest → rest ≡ []
     → Found content bytes bytes rest
 content_done bytes xs rest s e =
@@ -223,3 +211,15 @@ pub lidata_fault : (bytes bad : List ℕ) → Refused Lidata bytes bad
 lidata_fault bytes bad f =
     body_fault Lidata 0xA3 lidata_body bytes (length bytes - length bad)
     (refused Lidata lidata_body.ending lidata_blank bytes bad f)
+
+-- the blocks of the content are those of the body
+pub repeated_whole : (bytes : List ℕ) (segment offset : ℕ) (content : List ℕ) (xs : List Block)
+    → Lidata.Text (segment, (offset, content)) bytes → each (WideBlockText 63) xs content
+    → RepeatedText segment offset xs bytes
+repeated_whole bytes segment offset content xs j e =
+    let k = j.second in
+    join j.front j.rest j.parts j.first
+    (join k.front k.rest k.parts k.first (subst (each (WideBlockText 63) xs) (sym k.second.1.1) e))
+
+pub refused_within : (bytes bad : List ℕ) → Refused Lidata bytes bad → length bad ≤ length bytes
+refused_within bytes bad f = omega (arith, ap length f.parts, length-append f.front bad)

@@ -75,6 +75,10 @@ WideBlockText (suc below) (Nested repeat blocks) =
 abbrev pub AreBlocks : List ℕ → Type 0
 AreBlocks content = (blocks : List Block) × each (WideBlockText 63) blocks content
 
+-- LIDATA, by its blocks: a segment, an offset, and these
+abbrev pub RepeatedText : (segment offset : ℕ) → List Block → List ℕ → Type 0
+RepeatedText segment offset blocks = Index segment ⋆ Little 4 offset ⋆ each (WideBlockText 63) blocks
+
 -- ---- bodies
 
 -- of COMDEF, and of LCOMDEF

@@ -19,5 +19,6 @@ pub use comdats::{Comdat, ComdatAlignment, ComdatAllocation, ComdatSelection};
 pub use fault::ExtendedFault;
 pub use parse::parse_extended;
 pub use patches::{Patch, PatchLocation};
+pub use repeated::{WideBlock, WideRepeated, parse_wide_repeated};
 pub use said::Extended;
 pub use symbols::SymbolLine;

@@ -147,10 +147,10 @@ fn lidata<'a, A: Allocator + Copy + 'a>(alloc: A, bytes: &'a [u8]) -> Parsed<'a,
     ensures { ExtendedAnswers 0xA3 bytes.now result }
 {
     match read_lidata(alloc, bytes) {
-        Ok(((segment, (offset, content)), _)) => Ok(Extended::Lidata {
+        Ok(((segment, (offset, read)), _)) => Ok(Extended::Lidata {
             segment,
             offset,
-            content,
+            content: read.content,
         }),
         Err(ReadError::Memory) => Err(ExtendedFault::Memory),
         Err(ReadError::Refused(bad)) => Err(ExtendedFault::Body {

@@ -28,7 +28,7 @@ use Rattle.omf_wide.specs.inside.Subrecords.{subrecord}
 use Rattle.omf_wide.proofs.Lists.{each_map, each_unmap, each_narrow, each_wide, map_back}
 
 -- fields of one kind to the end
-abbrev list : (A : Type 0) {I V : Type 0} → Format I V → Format (Vec I A) (List V)
+abbrev pub list : (A : Type 0) {I V : Type 0} → Format I V → Format (Vec I A) (List V)
 list A F = to_end F (λ v. v.items)
 
 -- a public and a line by their parts
@@ -52,17 +52,17 @@ abbrev LineAt : Line → List ℕ → Type 0
 LineAt l = Joined (Word l.number) (Little 4 l.offset)
 
 -- the parts of a body, and what they make
-record Layout : Type 1 where
-  I : Type 0
-  P : Type 0
-  parts : Format I P
-  made : P → Said
+pub record Layout : Type 1 where
+  pub I : Type 0
+  pub P : Type 0
+  pub parts : Format I P
+  pub made : P → Said
 
-abbrev layout : {I P : Type 0} → Format I P → (P → Said) → Layout
+abbrev pub layout : {I P : Type 0} → Format I P → (P → Said) → Layout
 layout {I} {P} F made = record { I = I; P = P; parts = F; made = made }
 
 -- the body of the type of what is said; where there is none, any
-abbrev layout_of : (A : Type 0) → Said → Layout
+abbrev pub layout_of : (A : Type 0) → Said → Layout
 layout_of A (Plain (Lnames _)) = layout (list A name) (λ ns. Plain (Lnames ns))
 layout_of A (Plain (Extdef local _)) = layout (list A external) (λ es. Plain (Extdef local es))
 layout_of A (Plain (Pubdef local _ _)) =

@@ -57,6 +57,12 @@ SegmentAt width s =
 abbrev pub ListedText : ListedExternal → List ℕ → Type 0
 ListedText e = Index e.name ⋆ Index e.type_index
 
+-- ---- data
+
+-- a segment, an offset, and bytes
+abbrev pub DataText : (segment offset : ℕ) → List ℕ → List ℕ → Type 0
+DataText segment offset bytes = Index segment ⋆ Little 4 offset ⋆ Bytes bytes
+
 -- ---- bodies
 
 -- the bodies that say what one of the fourteen does, the numbers of this width

@@ -3,6 +3,7 @@
 
 mod bodies;
 pub mod communals;
+mod data;
 mod ends;
 mod externals;
 mod fault;
@@ -14,10 +15,11 @@ mod said;
 mod segments;
 
 pub use communals::{Communal, Extent, read_communal};
+pub use data::WideData;
 pub use externals::ListedExternal;
 pub use fault::WideFault;
 pub use fixups::{WideFixup, WideLocation, WideReference, WideSubrecord};
 pub use laws::{fixups_of_16_bits, records_of_16_bits};
-pub use parse::parse_wide;
+pub use parse::{parse_wide, parse_wide_data};
 pub use said::Said;
 pub use segments::WideSegment;

@@ -2,17 +2,19 @@
 #![tactic(auto, unfolding(crate::specs::Body::Body, crate::specs::View::said_view, omf_record::specs::Body::Body, omf_record::specs::View::view), using(crate::proofs::Layouts::lheadr_body, crate::proofs::Layouts::llnames_body, crate::proofs::Layouts::lextdef_body, crate::proofs::Layouts::cextdef_body, crate::proofs::Layouts::ledata_body, crate::proofs::Layouts::ledata_narrow, crate::proofs::Layouts::fixupp_body, crate::proofs::Layouts::modend_body, crate::proofs::Layouts::segdef_body))]
 
 ghost use Rattle.std.specs.Prelude.{◌≡◌, ◌≤◌, ◌⊎◌};
-ghost use Rattle.omf_wide.specs.Answer.{WideAnswers};
+ghost use Rattle.omf_wide.specs.Answer.{WideAnswers, WideDataAnswers};
 ghost use Rattle.omf_wide.specs.Body.{fixupp_kind, modend_kind, segdef_kind};
 
 use crate::bodies::{
     Cextdef, Fixupp, Ledata, Lextdef, Lheadr, Lines, Linnum, Llnames, Modend, Pubdef, Publics,
     Segdef, WideLines, WidePublics,
 };
+use crate::data::WideData;
 use crate::fault::WideFault;
 use crate::reading::{narrow_parts, parts};
 use crate::said::Said;
 use omf_codec::numbers::{DoubleWord, LongWord};
+use omf_codec::whole::{WholeFault, read_whole};
 use omf_frame::Frame;
 use omf_record::Record;
 use std::alloc::Allocator;
@@ -185,5 +187,25 @@ pub fn parse_wide<'a, A: Allocator + Copy + 'a>(
         0xBC => cextdef(alloc, bytes),
         0xCA => llnames(alloc, bytes),
         _ => Err(WideFault::OtherType),
+    }
+}
+
+/// What the body of a LEDATA of 32 bits says, A1H, whatever the offset, or the one fault that stands: `Body`, or `Memory`
+/// where there was none.
+#[tactic(auto, using(crate::proofs::Layouts::ledata_body))]
+pub fn parse_wide_data<'a, A: Allocator + Copy + 'a>(
+    alloc: A,
+    bytes: &'a [u8],
+) -> Result<WideData<'a>, WideFault>
+    ensures { WideDataAnswers bytes.now result }
+{
+    match read_whole::<A, Ledata<DoubleWord>>(alloc, bytes) {
+        Ok((segment, (offset, bytes))) => Ok(WideData {
+            segment,
+            offset,
+            bytes,
+        }),
+        Err(WholeFault::Memory) => Err(WideFault::Memory),
+        Err(WholeFault::Text { at }) => Err(WideFault::Body { at }),
     }
 }

@@ -212,11 +212,6 @@ content_lawful = record {
 pub content_blank : Completes content []
 content_blank = (0, [], (([], refl), (tt, refl)))
 
--- the bytes behind a block, or where reading one fails
-abbrev pub SkipsBlock : ℕ → List ℕ → Result (Bor (List ℕ)) ReadError → Type 0
-SkipsBlock below bytes (Ok rest) = (b : Block) × Found (block below) bytes b rest.now
-SkipsBlock below bytes (Err e) = Fails (block below) bytes e
-
 pub placed_blank : Completes (both double content) []
 placed_blank = both_blank double content (number_blank true) content_blank
 

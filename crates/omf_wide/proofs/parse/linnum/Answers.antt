@@ -14,5 +14,5 @@ narrow_parts-requires g c κs = (
 pub returns : goal.returns
 unfolding Rattle.omf_wide.specs.View.said_view Rattle.omf_record.specs.View.view
 returns g c =
-    (linnum_to g.row.A.Denot (c.in_ok-group.group, (c.in_ok-group.segment, c.in_ok-group.lines.items)) c.args.bytes.now
-    (rw (map-id c.in_ok-group.lines.items) at c.in_ok-group.ensures)).1
+    linnum_to g.row.A.Denot (c.in_ok-group.group, (c.in_ok-group.segment, c.in_ok-group.lines.items)) c.args.bytes.now
+    (rw (map-id c.in_ok-group.lines.items) at c.in_ok-group.ensures)

@@ -24,6 +24,6 @@ narrow_parts-requires g c κs = (
 pub returns : goal.returns
 unfolding Rattle.omf_wide.specs.View.said_view Rattle.omf_record.specs.View.view
 returns g c =
-    (pubdef_to g.row.A.Denot (nat_eq c.args.kind 0xB7) c.args.kind
+    pubdef_to g.row.A.Denot (nat_eq c.args.kind 0xB7) c.args.kind
     (c.in_ok-base.base, map public_view c.in_ok-base.publics.items) c.args.bytes.now
-    (elim c.requires [ inl e ↦ rw e refl | inr e ↦ rw e refl ]) c.in_ok-base.ensures).1
+    (elim c.requires [ inl e ↦ rw e refl | inr e ↦ rw e refl ]) c.in_ok-base.ensures
