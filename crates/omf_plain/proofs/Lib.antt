@@ -1,2 +1,12 @@
 pub mod Each
 pub mod Lengths
+pub mod Counts
+pub mod WideContents
+pub mod Families
+pub mod Once
+pub mod Walks
+pub mod Growing
+pub mod Takable
+pub mod Framing
+pub mod Taking
+pub mod Telling

@@ -21,7 +21,7 @@ use Rattle.omf_wide.specs.declared.fixups.WideSubrecord.{WideSubrecord}
 use Rattle.omf_wide.specs.declared.fixups.WideSubrecord.TheVariants as wide
 use Rattle.omf_plain.specs.declared.fault.Obstacle.{Obstacle}
 use Rattle.omf_plain.specs.declared.fault.Obstacle.TheVariants.{Above16Bits, FlatFrame, OutsideData}
-use Rattle.omf_plain.specs.Data.{Data, KeptOut, Stored, stored_at}
+use Rattle.omf_plain.specs.Data.{Data, KeptOut, Stored, WideRepeated, said_place, stored_at}
 use Rattle.omf_plain.specs.Flat.{frame_is_flat, target_is_flat, reference_is_flat}
 use Rattle.omf_plain.specs.Step.{◌>>=◌}
 
@@ -81,6 +81,11 @@ located last f (Of16Bits location) = Ok (plain_location location, None)
 located last f Offset32 = behind_short last f >>= λ behind. Ok (LoaderOffset, behind)
 located last f LoaderOffset32 = behind_short last f >>= λ behind. Ok (LoaderOffset, behind)
 
+-- the place of a fix-up in the data as it is said: repeated data of 32 bits has to have it
+abbrev pub plain_place : Data → (place : ℕ) → Result ℕ Obstacle
+plain_place (WideRepeated contents) place = ok_or (said_place contents place) OutsideData
+plain_place _ place = Ok place
+
 -- a fix-up, and the one behind it
 abbrev pub with_behind : Fixup → Option Fixup → List Subrecord
 with_behind f None = sub.Fixup f ∷ []
@@ -90,12 +95,13 @@ with_behind f (Some behind) = sub.Fixup f ∷ sub.Fixup behind ∷ []
 abbrev pub plain_fixup : (flat : List Bool) → Data → WideFixup → Result (List Subrecord) Obstacle
 plain_fixup flat last f = plain_reference flat f.reference >>= λ reference.
     (located last f f.location
-    >>= λ (location, behind). Ok (with_behind (record {
+    >>= λ (location, behind). (plain_place last f.offset
+    >>= λ place. Ok (with_behind (record {
       self_relative = f.self_relative;
       location = location;
-      offset = f.offset;
+      offset = place;
       reference = reference;
-    }) behind))
+    }) behind)))
 
 -- fix-ups of data that is kept out are, too
 abbrev pub kept_fixup : (flat : List Bool) → Data → WideFixup → Result (List Subrecord) Obstacle

@@ -1,12 +1,15 @@
-pub mod Given
 pub mod Step
 pub mod Flat
 pub mod Segments
 pub mod Externals
 pub mod Data
+pub mod Given
 pub mod Fixups
 pub mod Seen
 pub mod Plain
 pub mod View
 pub mod Reading
+pub mod Widths
+pub mod Modules
+pub mod ModuleAnswer
 pub mod inside

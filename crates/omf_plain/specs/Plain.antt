@@ -1,21 +1,25 @@
 -- What a record says as one of the fourteen that a link takes: of 32 bits, with 16; communal variables, as externals.
-use Rattle.std.specs.Prelude.{ℕ, ◌==◌, ◌&&◌, Bool, false, if◌then◌else◌, List, slice_index, None, Some, Ok, Err}
+use Rattle.std.specs.Prelude.{ℕ, ◌==◌, ◌&&◌, Bool, false, if◌then◌else◌, nat_lt, List, slice_index, None, Some, Ok}
+use Rattle.std.specs.Prelude.{Err}
 use Rattle.std.specs.declared.option.Option.{Option}
 use Rattle.std.specs.declared.result.Result.{Result}
 use Rattle.omf_alias.specs.Meaning.{Renaming}
 use Rattle.omf_extended.specs.Said as later
 use Rattle.omf_extended.specs.Said.{Extended}
-use Rattle.omf_record.specs.Record.{Record, Coment, Extdef, External, Pubdef, Ledata, Lidata, Fixupp, Modend, Segdef}
+use Rattle.omf_record.specs.Record.{Block, blocks_of, Record, Coment, Extdef, External, Pubdef, Ledata, Lidata, Fixupp}
+use Rattle.omf_record.specs.Record.{Modend, Segdef}
 use Rattle.omf_record.specs.declared.fixups.Subrecord.{Subrecord}
 use Rattle.omf_wide.specs.Said as wide
 use Rattle.omf_wide.specs.Said.{Said}
 use Rattle.omf_wide.specs.declared.segments.WideSegment.{WideSegment}
 use Rattle.omf_plain.specs.declared.fault.Obstacle.{Obstacle}
-use Rattle.omf_plain.specs.declared.fault.Obstacle.TheVariants.{EasyOmf, FlatFrame, ImportedName, OtherType}
+use Rattle.omf_plain.specs.declared.fault.Obstacle.TheVariants.{Above16Bits, EasyOmf, FlatFrame, ImportedName}
+use Rattle.omf_plain.specs.declared.fault.Obstacle.TheVariants.{OtherType}
+use Rattle.omf_plain.specs.Data.{have_word_counts}
 use Rattle.omf_plain.specs.Externals.{plain_external, plain_listed, plain_communal}
 use Rattle.omf_plain.specs.Fixups.{plain_start, plain_subrecord}
 use Rattle.omf_plain.specs.Flat.{base_is_flat}
-use Rattle.omf_plain.specs.Given.{Given, Narrow, Wide, Later}
+use Rattle.omf_plain.specs.Given.{Given, Narrow, Wide, Data, Repeated, Later}
 use Rattle.omf_plain.specs.Seen.{Seen, is_out}
 use Rattle.omf_plain.specs.Segments.{is_kept_out, nothing_of, plain_segment}
 use Rattle.omf_plain.specs.Step.{◌>>=◌, alone, each_of}
@@ -82,6 +86,20 @@ plain_said t seen (wide.Cextdef names) =
     externals false (each_of (λ e. alone (plain_listed t.renaming seen.names e)) names)
 plain_said t seen (wide.Segdef is_wide s) = plain_segdef t seen is_wide s
 
+-- data of 32 bits, where its segment isn't kept out: its offset has 16 bits
+abbrev pub plain_data : Seen → (segment offset : ℕ) → List ℕ → Taken
+plain_data seen segment offset bytes =
+    if is_out seen.kept_out segment then Ok None
+    else if nat_lt offset 65536 then Ok (Some (Ledata segment offset bytes))
+    else Err Above16Bits
+
+-- repeated data of 32 bits, where its segment isn't kept out: its offset and its repeat counts have 16 bits
+abbrev pub plain_repeated : Seen → (segment offset : ℕ) → List Block → Taken
+plain_repeated seen segment offset blocks =
+    if is_out seen.kept_out segment then Ok None
+    else if nat_lt offset 65536 && have_word_counts (blocks_of blocks) then Ok (Some (Lidata segment offset blocks))
+    else Err Above16Bits
+
 -- one that came after Intel's: communal variables are externals, and aliases say what names mean. No other one is taken
 abbrev pub plain_later : Taking → Extended → Taken
 plain_later t (later.Comdef local entries unknown) =
@@ -93,4 +111,6 @@ plain_later t _ = Err OtherType
 unfoldable pub plain : Taking → Seen → Given → Taken
 plain t seen (Narrow r) = plain_record t seen r
 plain t seen (Wide said) = plain_said t seen said
+plain t seen (Data segment offset bytes) = plain_data seen segment offset bytes
+plain t seen (Repeated segment offset blocks) = plain_repeated seen segment offset blocks
 plain t seen (Later said) = plain_later t said

@@ -3,8 +3,9 @@ use Rattle.std.specs.Prelude.{ℕ, zero, suc, Bool, false, if◌then◌else◌, 
 use Rattle.omf_record.specs.Record.{Record, Lnames, Grpdef, Ledata, Lidata}
 use Rattle.omf_wide.specs.Said.{Said, Plain, Segdef}
 use Rattle.omf_wide.specs.declared.segments.WideSegment.{WideSegment}
-use Rattle.omf_plain.specs.Data.{Data, Absent, KeptOut, Stored, Repeated, contents}
+use Rattle.omf_plain.specs.Data.{Data, Absent, KeptOut, Stored, Repeated, WideRepeated, contents, wide_contents}
 use Rattle.omf_plain.specs.Flat.{is_flat_group}
+use Rattle.omf_plain.specs.Given as given
 use Rattle.omf_plain.specs.Given.{Given, Narrow, Wide}
 use Rattle.omf_plain.specs.Segments.{is_kept_out}
 
@@ -57,4 +58,8 @@ seen_after_said keep_debug seen _ = seen
 abbrev pub seen_after : (keep_debug : Bool) → Seen → Given → Seen
 seen_after keep_debug seen (Narrow r) = seen_after_record seen r
 seen_after keep_debug seen (Wide said) = seen_after_said keep_debug seen said
+seen_after keep_debug seen (given.Data segment offset bytes) =
+    record seen { last = kept_data seen.kept_out segment (Stored segment offset bytes) }
+seen_after keep_debug seen (given.Repeated segment offset blocks) =
+    record seen { last = kept_data seen.kept_out segment (WideRepeated (wide_contents blocks)) }
 seen_after keep_debug seen _ = seen

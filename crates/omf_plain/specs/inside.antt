@@ -1,2 +1,3 @@
 -- How the code sees what it works on: no public contract cites any of it.
 pub mod Steps
+pub mod Walking

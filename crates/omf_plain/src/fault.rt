@@ -3,6 +3,8 @@
 ghost use Rattle.std.specs.Prelude.{◌≡◌};
 
 use omf_extended::ExtendedFault;
+use omf_frame::FramingFault;
+use omf_module::CheckFault;
 use omf_record::RecordFault;
 use omf_wide::WideFault;
 use std::alloc::{AllocError, AllocFailed};
@@ -49,6 +51,12 @@ pub enum GivenFault {
     /// It would be one of 32 bits, or like it.
     #[error("{0}")]
     Wide(WideFault),
+    /// It would be data of 32 bits.
+    #[error("{0}")]
+    Data(WideFault),
+    /// It would be repeated data of 32 bits.
+    #[error("{0}")]
+    Repeated(ExtendedFault),
     /// Its type is another one.
     #[error("{0}")]
     Later(ExtendedFault),
@@ -63,6 +71,37 @@ pub enum PlainFault {
     /// There was no memory.
     #[error("no memory")]
     Memory,
+}
+
+/// Why the record at a place of a module isn't taken.
+#[derive(Clone, Copy, Debug, PartialEq, Eq, Error)]
+pub enum RecordObstacle {
+    /// No frame begins there.
+    #[error("{0}")]
+    Framing(FramingFault),
+    /// The bytes end there, before the end of the module.
+    #[error("the module has no end")]
+    NoEnd,
+    /// The frame holds no record that is taken. It isn't that there was no memory.
+    #[error("{0}")]
+    Body(GivenFault),
+    /// Something of the record has no saying in the fourteen.
+    #[error("{0}")]
+    Obstacle(Obstacle),
+    /// A check of modules refuses what the record says.
+    #[error("{0}")]
+    Check(CheckFault),
+}
+
+/// Why bytes aren't read as a module.
+#[derive(Clone, Copy, Debug, PartialEq, Eq, Error)]
+pub enum PlainModuleFault {
+    /// There was no memory.
+    #[error("no memory")]
+    Memory,
+    /// The record at this place isn't taken, the first of them.
+    #[error("record {place}: {why}")]
+    Record { place: u64, why: RecordObstacle },
 }
 
 impl From<AllocError> for PlainFault {

@@ -137,10 +137,11 @@ fn push_fixup<A: Allocator + Copy>(
 {
     let reference = plain_reference(flat, fixup.reference)?;
     let (location, behind) = located(last, fixup)?;
+    let offset = last.plain_place(fixup.offset)?;
     subrecords.push(Subrecord::Fixup(Fixup {
         self_relative: fixup.self_relative,
         location,
-        offset: fixup.offset,
+        offset,
         reference,
     }))?;
     if let Some(fixup) = behind {

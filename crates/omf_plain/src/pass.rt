@@ -4,34 +4,39 @@ ghost use Rattle.std.specs.Prelude.{◌≡◌, ◌≤◌, ◌++◌, false, true,
 ghost use Rattle.std.specs.declared.result.Result.{Result};
 ghost use Rattle.std.specs.Option.{option_map};
 ghost use Rattle.omf_alias.specs.Said.{renaming_said};
-ghost use Rattle.omf_extended.specs.View.{extended_view};
+ghost use Rattle.omf_extended.specs.View.{extended_view, wide_block_view};
 ghost use Rattle.omf_library.specs.Names.{texts};
 ghost use Rattle.omf_record.specs.Record as said;
+ghost use Rattle.omf_record.specs.Record.{blocks_of};
 ghost use Rattle.omf_record.specs.View.{external_view, view};
 ghost use Rattle.omf_record.specs.declared.fixups.Subrecord.{Subrecord};
 ghost use Rattle.omf_wide.specs.View.{said_view};
 ghost use Rattle.omf_plain.specs.declared.fault.Obstacle.{Obstacle};
 ghost use Rattle.omf_wide.specs.Communals as wide;
+ghost use Rattle.omf_plain.specs.Data as last;
+ghost use Rattle.omf_plain.specs.Data.{all_wide_stored_len, wide_contents};
 ghost use Rattle.omf_plain.specs.Externals as ext;
 ghost use Rattle.omf_plain.specs.Fixups as fix;
 ghost use Rattle.omf_plain.specs.Step.{alone, each_of};
 ghost use Rattle.omf_plain.specs.Given.{given_len, repeated_len, said_len};
 ghost use Rattle.omf_plain.specs.Plain as plain;
 ghost use Rattle.omf_plain.specs.Seen as seen;
+ghost use Rattle.omf_plain.specs.Segments as segs;
 ghost use Rattle.omf_plain.specs.inside.Steps.{says_nothing};
 ghost use Rattle.omf_plain.specs.View.{Answers, data_view, given_view, seen_by, taking_of};
 
-use crate::data::{Data, contents_of};
+use crate::data::{Data, contents_of, wide_contents_of};
 use crate::externals::{communal_externals, listed_externals, plain_externals};
 use crate::fault::{Obstacle, PlainFault};
 use crate::fixups::{plain_start, plain_subrecords};
 use crate::flat::{base_is_flat, flag_at, is_flat_group};
 use crate::given::Given;
+use crate::repeated::plain_blocks;
 use crate::segments::{is_kept_out, nothing_of, plain_segment};
 use omf_alias::Renaming;
-use omf_extended::Extended;
+use omf_extended::{Extended, WideBlock, WideRepeated};
 use omf_record::{External, Record, Subrecord};
-use omf_wide::{Communal, ListedExternal, Said, WideSegment, WideSubrecord};
+use omf_wide::{Communal, ListedExternal, Said, WideData, WideSegment, WideSubrecord};
 use std::alloc::{AllocError, Allocator, Global};
 
 /// How the records of a module are taken, and what is known of it from those so far.
@@ -280,6 +285,13 @@ impl<'a, A: Allocator + Copy> Pass<'a, A> {
         }
     }
 
+    /// Whether a segment is kept out of the program.
+    pub(crate) fn keeps_out(&self, segment: WideSegment) -> bool
+        ensures { result ≡ segs.is_kept_out (taking_of self.now).keep_debug (seen_by self.now).names segment.class }
+    {
+        is_kept_out(self.keep_debug, &self.names, segment.class)
+    }
+
     /// A segment as it is taken.
     #[tactic(auto, unfolding(omf_record::specs::View::view))]
     fn take_segment(&mut self, wide: bool, segment: WideSegment) -> Taken<'a, A>
@@ -289,7 +301,7 @@ impl<'a, A: Allocator + Copy> Pass<'a, A> {
         ensures seen { OnOk result (seen_by self.new
             ≡ seen.seen_after_segment (taking_of self.old).keep_debug (seen_by self.old) segment) }
     {
-        let kept_out = is_kept_out(self.keep_debug, &self.names, segment.class);
+        let kept_out = self.keeps_out(segment);
         let segment = if kept_out {
             nothing_of(segment)
         } else {
@@ -328,6 +340,84 @@ impl<'a, A: Allocator + Copy> Pass<'a, A> {
         }
     }
 
+    /// Data of 32 bits as it is taken, which is the last data then.
+    #[tactic(auto, unfolding(omf_record::specs::View::view))]
+    fn take_data(&mut self, data: WideData<'a>) -> Taken<'a, A>
+        ensures taking { taking_of self.new ≡ taking_of self.old }
+        ensures plain { Answers (option_map view) result
+            (plain.plain_data (seen_by self.old) data.entry.segment data.entry.offset data.entry.bytes.now) }
+        ensures seen { OnOk result (seen_by self.new ≡ record (seen_by self.old) {
+          last = seen.kept_data (seen_by self.old).kept_out data.entry.segment
+              (last.Stored data.entry.segment data.entry.offset data.entry.bytes.now);
+        }) }
+    {
+        let WideData {
+            segment,
+            offset,
+            bytes,
+        } = data;
+        if flag_at(&self.kept_out, segment) {
+            self.last = Data::KeptOut;
+            return Ok(None);
+        }
+        if offset >= 65_536 {
+            return Err(PlainFault::Of(Obstacle::Above16Bits));
+        }
+        let offset = offset as u16;
+        self.last = Data::Stored {
+            segment,
+            offset,
+            bytes,
+        };
+        Ok(Some(Record::Ledata {
+            segment,
+            offset,
+            bytes,
+        }))
+    }
+
+    /// Repeated data of 32 bits as it is taken.
+    #[tactic(auto, unfolding(omf_record::specs::View::view))]
+    fn plain_repeated(&self, segment: u16, offset: u32, blocks: &[WideBlock<'a, A>]) -> Taken<'a, A>
+        ensures { Answers (option_map view) result
+            (plain.plain_repeated (seen_by self.now) segment offset (map wide_block_view blocks.now)) }
+    {
+        if flag_at(&self.kept_out, segment) {
+            return Ok(None);
+        }
+        if offset >= 65_536 {
+            return Err(PlainFault::Of(Obstacle::Above16Bits));
+        }
+        let blocks = plain_blocks(self.alloc, blocks)?;
+        Ok(Some(Record::Lidata {
+            segment,
+            offset: offset as u16,
+            blocks,
+        }))
+    }
+
+    /// Repeated data of 32 bits as it is taken, which is the last data then.
+    fn take_repeated(&mut self, repeated: WideRepeated<'a, A>) -> Taken<'a, A>
+        requires { all_wide_stored_len (blocks_of (map wide_block_view repeated.blocks.items)) ≤ 65534 }
+        ensures taking { taking_of self.new ≡ taking_of self.old }
+        ensures plain { Answers (option_map view) result (plain.plain_repeated (seen_by self.old)
+            repeated.entry.segment repeated.entry.offset (map wide_block_view repeated.entry.blocks.items)) }
+        ensures seen { OnOk result (seen_by self.new ≡ record (seen_by self.old) {
+          last = seen.kept_data (seen_by self.old).kept_out repeated.entry.segment
+              (last.WideRepeated (wide_contents (map wide_block_view repeated.entry.blocks.items)));
+        }) }
+    {
+        let WideRepeated {
+            segment,
+            offset,
+            blocks,
+        } = repeated;
+        let taken = self.plain_repeated(segment, offset, &blocks)?;
+        let contents = wide_contents_of(self.alloc, &blocks)?;
+        self.note_data(segment, Data::WideRepeated { contents });
+        Ok(taken)
+    }
+
     /// One that came after Intel's as it is taken.
     #[tactic(auto, unfolding(omf_extended::specs::View::extended_view))]
     fn plain_later(&self, said: Extended<'a, A>) -> Taken<'a, A>
@@ -358,6 +448,8 @@ impl<'a, A: Allocator + Copy> Pass<'a, A> {
         match given {
             Given::Narrow(record) => self.take_record(record),
             Given::Wide(said) => self.take_said(said),
+            Given::Data(data) => self.take_data(data),
+            Given::Repeated(repeated) => self.take_repeated(repeated),
             Given::Later(said) => self.plain_later(said),
         }
     }

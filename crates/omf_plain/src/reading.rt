@@ -7,15 +7,15 @@ ghost use Rattle.omf_plain.specs.View.{given_view};
 
 use crate::fault::GivenFault;
 use crate::given::Given;
-use omf_extended::parse_extended;
+use omf_extended::{parse_extended, parse_wide_repeated};
 use omf_frame::Frame;
 use omf_record::parse_record;
-use omf_wide::parse_wide;
+use omf_wide::{parse_wide, parse_wide_data};
 use std::alloc::Allocator;
 
-/// What the record of a frame says: one of the fourteen, one of 32 bits or of a type that says the same as another, or
-/// one that came after Intel's; else why it says nothing, by the family of its type.
-#[tactic(auto, using(crate::proofs::Lengths::narrow_len, crate::proofs::Lengths::wide_len))]
+/// What the record of a frame says: one of the fourteen, one of 32 bits or of a type that says the same as another,
+/// data of 32 bits, or one that came after Intel's; else why it says nothing, by the family of its type.
+#[tactic(auto, using(crate::proofs::Lengths::narrow_len, crate::proofs::Lengths::wide_len, crate::proofs::Lengths::wide_repeated_len))]
 pub fn read_given<'a, A: Allocator + Copy + 'a>(
     alloc: A,
     frame: &Frame<'a>,
@@ -30,22 +30,18 @@ pub fn read_given<'a, A: Allocator + Copy + 'a>(
                 Err(fault) => Err(GivenFault::Narrow(fault)),
             }
         }
-        0x82
-        | 0x8A
-        | 0x8B
-        | 0x91
-        | 0x95
-        | 0x98
-        | 0x99
-        | 0x9C
-        | 0x9D
-        | 0xA1
-        | 0xB5
-        | 0xB7
-        | 0xBC
-        | 0xCA => match parse_wide(alloc, frame) {
-            Ok(said) => Ok(Given::Wide(said)),
-            Err(fault) => Err(GivenFault::Wide(fault)),
+        0x82 | 0x8A | 0x8B | 0x91 | 0x95 | 0x98 | 0x99 | 0x9C | 0x9D | 0xB5 | 0xB7 | 0xBC | 0xCA =>
+            match parse_wide(alloc, frame) {
+                Ok(said) => Ok(Given::Wide(said)),
+                Err(fault) => Err(GivenFault::Wide(fault)),
+            },
+        0xA1 => match parse_wide_data(alloc, frame.body) {
+            Ok(data) => Ok(Given::Data(data)),
+            Err(fault) => Err(GivenFault::Data(fault)),
+        },
+        0xA3 => match parse_wide_repeated(alloc, frame.body) {
+            Ok(repeated) => Ok(Given::Repeated(repeated)),
+            Err(fault) => Err(GivenFault::Repeated(fault)),
         },
         _ => match parse_extended(alloc, frame) {
             Ok(said) => Ok(Given::Later(said)),

@@ -1,10 +1,12 @@
 -- What private functions answer.
-use Rattle.std.specs.Prelude.{◌≡◌, Bool, true, false, List, ◌++◌, Ok, Err}
+use Rattle.std.specs.Prelude.{◌≡◌, Bool, true, false, if◌then◌else◌, List, ◌++◌, Ok, Err}
 use Rattle.std.specs.declared.result.Result.{Result}
-use Rattle.omf_record.specs.Record.{External, Record, Lnames, Grpdef, Ledata, Lidata}
+use Rattle.omf_record.specs.Record.{Block, blocks_of, External, Record, Lnames, Grpdef, Ledata, Lidata}
 use Rattle.omf_record.specs.View.{external_view}
 use Rattle.omf_record.specs.declared.externals.External as code
 use Rattle.omf_plain.specs.declared.fault.Obstacle.{Obstacle}
+use Rattle.omf_plain.specs.declared.fault.Obstacle.TheVariants.{Above16Bits}
+use Rattle.omf_plain.specs.Data.{have_word_counts}
 use Rattle.omf_plain.specs.declared.fault.PlainFault.{PlainFault}
 use Rattle.omf_plain.specs.declared.fault.PlainFault.TheVariants.{Of, Memory}
 
@@ -26,3 +28,7 @@ Appends old new (Err Memory) stands = Unit {0}
 abbrev pub external_said : Result code.External Obstacle → Result External Obstacle
 external_said (Ok e) = Ok (external_view e)
 external_said (Err obstacle) = Err obstacle
+
+-- blocks of 32 bits as those of 16
+abbrev pub plain_blocks : List Block → Result (List Block) Obstacle
+plain_blocks blocks = if have_word_counts (blocks_of blocks) then Ok blocks else Err Above16Bits
