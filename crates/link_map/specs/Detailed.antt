@@ -1,5 +1,6 @@
 -- The detailed map of segments, as the option /s of TLINK asks for it: a row for each module's part of a segment.
-use Rattle.std.specs.Prelude.{ℕ, ◌-◌, ◌==◌, Bool, if◌then◌else◌, List, [], ◌∷◌, ◌++◌, codes, find, get_or, length}
+use Rattle.std.specs.Prelude.{ℕ, ◌+◌, ◌-◌, ◌*◌, ◌==◌, Bool, ◌||◌, if◌then◌else◌, List, [], ◌∷◌, ◌++◌, codes, find}
+use Rattle.std.specs.Prelude.{get_or, length}
 use Rattle.std.specs.Prelude.{map, replicate, slice_get, take, Some, None}
 use Rattle.std.specs.declared.option.Option.{Option}
 use Rattle.std.specs.List.{concat, enumerate_from, flat_map, list_any}
@@ -9,6 +10,12 @@ use Rattle.omf_frame.specs.Frame.{Frame}
 use Rattle.omf_library.specs.Records.{module_records}
 use Rattle.omf_lines.specs.Lines.{module_name}
 use Rattle.omf_module.specs.Module.{Group, Module, Segment}
+use Rattle.omf_module.specs.declared.Kind.{Kind}
+use Rattle.omf_module.specs.declared.Kind.TheVariants.{Private, Stack, Common}
+use Rattle.omf_module.specs.declared.Kind.TheVariants.{Public as Public'}
+use Rattle.omf_module.specs.declared.Standing.{Standing}
+use Rattle.omf_module.specs.declared.Standing.TheVariants as standing
+use Rattle.omf_module.specs.declared.Standing.TheVariants.{Absolute}
 use Rattle.omf_place.specs.Layout.{Layout, ModulePlaces, places_of, segment_position}
 use Rattle.omf_place.specs.declared.layout.Position.{Position}
 use Rattle.omf_place.specs.declared.layout.Position.TheVariants.{Relocatable}
@@ -46,15 +53,43 @@ part_line part =
     ∷ blanks 14 part.place.name ∷ codes " G=" ∷ part.group ∷ blanks 7 part.group ∷ codes " M=" ∷ part.module_name
     ∷ blanks 9 part.module_name ∷ codes " ACBP=" ∷ hexadecimal 2 part.attributes ∷ codes "\n" ∷ [])
 
--- ---- its attributes (TIS OMF 1.1, "98H SEGDEF: Segment Definition Record")
+-- ---- its attributes (TIS OMF 1.1, "98H or 99H SEGDEF: Segment Definition Record")
 
--- the first byte of a SEGDEF: the alignment A, the combination C, B of a segment of 65,536 bytes, and P
+-- the first byte of a SEGDEF, as it stands there: the alignment A, the combination C, B of a segment of 65,536 bytes,
+-- and P
 unfoldable pub attribute_byte : Frame → List ℕ
-attribute_byte f = if f.kind == 0x98 then take 1 f.body else []
+attribute_byte f = if (f.kind == 0x98) || (f.kind == 0x99) then take 1 f.body else []
 
 -- those of the module that begins the bytes, in order of records
 abbrev pub attribute_bytes : (bytes : List ℕ) → List ℕ
 attribute_bytes bytes = flat_map attribute_byte (module_records bytes 0)
+
+-- A: 0 of an absolute one, then by its alignment at a byte, a word, a paragraph, a page of 256 bytes, a double word
+abbrev pub alignment_field : Standing → ℕ
+alignment_field (Absolute frame offset) = 0
+alignment_field (standing.Relocatable alignment kind) =
+    if alignment == 1 then 1
+    else if alignment == 2 then 2
+    else if alignment == 16 then 3
+    else if alignment == 256 then 4
+    else 5
+
+-- C
+abbrev pub combination_field : Kind → ℕ
+combination_field Private = 0
+combination_field Public' = 2
+combination_field Stack = 5
+combination_field Common = 6
+
+-- the same of one that stands there, if it isn't absolute
+abbrev pub combination_of : Standing → ℕ
+combination_of (Absolute frame offset) = 0
+combination_of (standing.Relocatable alignment kind) = combination_field kind
+
+-- what they are of a segment that none of these records defines, as one that a linker adds; P is 0
+abbrev pub attributes_of : Standing → (length : ℕ) → ℕ
+attributes_of standing length =
+    32 * alignment_field standing + (4 * combination_of standing + (if length == 65536 then 2 else 0))
 
 -- ---- its group (TIS OMF 1.1, "9AH GRPDEF: Group Definition Record")
 
@@ -79,8 +114,8 @@ position_in places group position = position
 
 -- ---- those of a program
 
--- that of a segment, by its index in a module, which is the input with this index and has this name, and whose SEGDEFs
--- have these attributes
+-- that of a segment, by its index in a module, which is the input with this index and has this name, and the first
+-- segments of which have these attributes
 abbrev pub part_of : Layout → (name attributes : List ℕ) → ℕ × Module → ℕ × Segment → Part
 part_of layout name attributes (input, m) (index, segment) =
     let group = group_of m.groups index in
@@ -92,7 +127,7 @@ part_of layout name attributes (input, m) (index, segment) =
       class = segment.class;
       group = group_name group;
       module_name = name;
-      attributes = unwrap_or (slice_get attributes index) 0;
+      attributes = unwrap_or (slice_get attributes index) (attributes_of segment.standing segment.length);
     }
 
 -- of each segment of a module that these bytes begin with

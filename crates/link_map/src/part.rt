@@ -30,7 +30,7 @@ pub(crate) struct ListedPart<'a> {
     pub(crate) group: &'a [u8],
     /// The name of its module.
     pub(crate) module_name: &'a [u8],
-    /// The attribute byte of its SEGDEF.
+    /// Its attribute byte.
     pub(crate) attributes: u8,
 }
 

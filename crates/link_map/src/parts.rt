@@ -1,6 +1,7 @@
 //! The parts of a program's segments, and the detailed map of them.
-ghost use Rattle.std.specs.Prelude.{◌≡◌, ◌<◌, ◌++◌, IfOk, OnOk, Some, length, map, slice_get, slice_set};
+ghost use Rattle.std.specs.Prelude.{◌≡◌, ◌<◌, ◌≤◌, ◌++◌, IfOk, OnOk, Some, length, map, slice_get, slice_set};
 ghost use Rattle.std.specs.List.{enumerate_from, flat_map};
+ghost use Rattle.std.specs.Option.{unwrap_or};
 ghost use Rattle.omf_frame.specs.Lending.{plain_frame};
 ghost use Rattle.omf_module.specs.Module.{Segment};
 ghost use Rattle.omf_place.specs.Bounded.{IsBounded};
@@ -17,12 +18,14 @@ use crate::publics::listed_at;
 use omf_frame::Frame;
 use omf_library::module_frames;
 use omf_lines::module_name;
-use omf_module::Module;
+use omf_module::{Kind, Module, Standing};
 use omf_place::{Layout, Position};
 use std::alloc::{AllocError, Allocator};
 
-/// The type of a record that defines a segment.
+/// The types of a record that defines a segment: with a length of two bytes, and of four.
 const SEGDEF: u8 = 0x98;
+
+const SEGDEF_32: u8 = 0x99;
 
 /// What stands in front of the parts.
 const HEADING: &[u8] = b"\n Detailed map of segments\n\n";
@@ -39,7 +42,7 @@ fn push_attributes<A: Allocator + Copy>(
     ensures { OnOk result
         (attributes.new.items ≡ attributes.old.items ++ spec.attribute_byte (plain_frame frame.now)) }
 {
-    if frame.kind != SEGDEF {
+    if frame.kind != SEGDEF && frame.kind != SEGDEF_32 {
         return Ok(());
     }
     if let Some(byte) = frame.body.first() {
@@ -60,6 +63,45 @@ fn attribute_bytes<A: Allocator + Copy>(
         push_attributes(&mut attributes, frame)?;
     }
     Ok(attributes)
+}
+
+/// The field A of a SEGDEF, by where the segment stands.
+fn alignment_field(standing: Standing) -> u8
+    ensures field { result ≡ spec.alignment_field standing }
+    ensures small { result ≤ 5 }
+{
+    match standing {
+        Standing::Absolute { .. } => 0,
+        Standing::Relocatable { alignment: 1, .. } => 1,
+        Standing::Relocatable { alignment: 2, .. } => 2,
+        Standing::Relocatable { alignment: 16, .. } => 3,
+        Standing::Relocatable { alignment: 256, .. } => 4,
+        Standing::Relocatable { .. } => 5,
+    }
+}
+
+/// The field C of a SEGDEF, by where the segment stands.
+fn combination_field(standing: Standing) -> u8
+    ensures field { result ≡ spec.combination_of standing }
+    ensures small { result ≤ 6 }
+{
+    match standing {
+        Standing::Absolute { .. } => 0,
+        Standing::Relocatable { kind, .. } => match kind {
+            Kind::Private => 0,
+            Kind::Public => 2,
+            Kind::Stack => 5,
+            Kind::Common => 6,
+        },
+    }
+}
+
+/// The attribute byte of a segment that no SEGDEF defines.
+fn attributes_of(standing: Standing, length: u32) -> u8
+    ensures { result ≡ spec.attributes_of standing length }
+{
+    let big = if length == 65_536 { 2 } else { 0 };
+    32 * alignment_field(standing) + 4 * combination_field(standing) + big
 }
 
 /// Sets the entry of a segment, where there is one.
@@ -103,7 +145,7 @@ struct DetailedInput<'a, A: Allocator + Copy, B: Allocator + Copy> {
     input: usize,
     /// The module's name.
     name: &'a [u8],
-    /// The attribute bytes of its SEGDEFs.
+    /// The attribute bytes of its SEGDEFs, in order.
     attributes: Vec<u8, A>,
     /// Of each of its segments the index of the first GRPDEF that has it.
     groups: Vec<Option<usize>, A>,
@@ -139,6 +181,17 @@ impl<'a, A: Allocator + Copy, B: Allocator + Copy> DetailedInput<'a, A, B> {
         }
     }
 
+    /// The attributes of a segment that stands there: those of its SEGDEF, if it has one.
+    fn attributes_at(&self, segment: usize, standing: Standing, length: u32) -> u8
+        ensures { result ≡ unwrap_or (slice_get self.now.attributes.items segment)
+            (spec.attributes_of standing length) }
+    {
+        match self.attributes.get(segment) {
+            Some(byte) => *byte,
+            None => attributes_of(standing, length),
+        }
+    }
+
     /// The part of a segment, by its index in the module.
     fn part(&self, index: usize) -> ListedPart<'a>
         requires placed { HasPlaces self.now.layout.now self.now.input self.now.from.now }
@@ -158,7 +211,7 @@ impl<'a, A: Allocator + Copy, B: Allocator + Copy> DetailedInput<'a, A, B> {
             class: segment.class,
             group: self.group_name(index, group),
             module_name: self.name,
-            attributes: self.attributes.get(index).copied().unwrap_or(0),
+            attributes: self.attributes_at(index, segment.standing, segment.length),
         }
     }
 }

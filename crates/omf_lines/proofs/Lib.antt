@@ -1,3 +1,5 @@
 mod Slices
 mod Kept
 mod Said
+mod Wide
+mod WideSaid

@@ -1,6 +1,7 @@
 -- The lines of a record are those that its body says.
-use Rattle.std.proofs.Common.{◌≡◌, ℕ, zero, suc, ◌+◌, ◌*◌, ◌/◌, ◌%◌, ◌<◌, ◌≤◌, cond, List, [], ◌∷◌, ◌++◌, length, take}
-use Rattle.std.proofs.Common.{drop, map, refl, sym, ap, ap₂, ◌∙◌, subst, arith, append_assoc, length-append, eq-eqb, Some, None}
+use Rattle.std.proofs.Common.{◌≡◌, ℕ, zero, suc, ◌+◌, ◌*◌, ◌/◌, ◌%◌, ◌≤◌, cond, List, [], ◌∷◌, ◌++◌, length, take}
+use Rattle.std.proofs.Common.{drop, map, refl, sym, ap, ap₂, ◌∙◌, subst, arith, length-append, eq-eqb, eqb}
+use Rattle.std.proofs.Common.{Some}
 use Rattle.std.specs.Option.{option_map_or}
 use Rattle.omf_frame.specs.Frame.{Frame}
 use Rattle.omf_frame.specs.Primitives.{Index, word}
@@ -11,8 +12,7 @@ use Rattle.omf_record.specs.Body.{Body}
 use Rattle.omf_record.specs.Language.{Word, each, ◌⋆◌}
 use Rattle.omf_record.specs.Record.{Linnum}
 use Rattle.omf_record.specs.declared.externals.Line as says
-use Rattle.omf_lines.specs.Lines.{line_of, lines_behind, lines_in, pair_front}
-use Rattle.omf_lines.specs.declared.line.Line.{Line}
+use Rattle.omf_lines.specs.Lines.{line_of, lines_behind, lines_in, lines_of_body, pair_front, wide_pairs}
 
 take-front : (a rest : List ℕ) → take (length a) (a ++ rest) ≡ a
 take-front [] rest = refl
@@ -23,7 +23,7 @@ drop-front [] rest = refl
 drop-front (x ∷ a) rest = drop-front a rest
 
 -- an index that bytes begin with
-index-front : (bytes a rest : List ℕ) (value : ℕ) → bytes ≡ a ++ rest → Index value a
+pub index-front : (bytes a rest : List ℕ) (value : ℕ) → bytes ≡ a ++ rest → Index value a
     → index_front bytes ≡ Some (value, rest)
 index-front bytes a rest value parts is =
     ap index_front parts
@@ -38,7 +38,7 @@ LineText line = Word line.number ⋆ Word line.offset
 abbrev pair_of : says.Line → ℕ × ℕ
 pair_of line = (line.number, line.offset)
 
-word-is : (n : ℕ) → n % 256 + 256 * (n / 256) ≡ n
+pub word-is : (n : ℕ) → n % 256 + 256 * (n / 256) ≡ n
 word-is n = omega arith
 
 -- the four bytes of a line
@@ -76,7 +76,7 @@ all-said : (lines : List says.Line) (bytes : List ℕ) → each LineText lines b
 unfolding entries
 all-said lines bytes is = pairs-said (length bytes) lines bytes is (lines-long lines bytes is)
 
-map-map : {X Y Z : Type 0} (f : Y → Z) (g : X → Y) (xs : List X) → map f (map g xs) ≡ map (λ x. f (g x)) xs
+pub map-map : {X Y Z : Type 0} (f : Y → Z) (g : X → Y) (xs : List X) → map f (map g xs) ≡ map (λ x. f (g x)) xs
 map-map f g [] = refl
 map-map f g (x ∷ xs) = ap (λ l. f (g x) ∷ l) (map-map f g xs)
 
@@ -86,8 +86,10 @@ pub lines_said : (f : Frame) (group segment : ℕ) (lines : List says.Line) → 
 unfolding Body lines_in
 lines_said f group segment lines kind is =
     let rest = is.second in
-    ap (λ t. cond t (option_map_or lines_behind (index_front f.body) []) []) (eq-eqb f.kind 0x94 kind)
-    ∙ ap (λ o. option_map_or lines_behind o []) (index-front f.body is.front is.rest group is.parts is.first)
+    ap (λ t. cond t (lines_of_body (entries pair_front) f.body) (cond (eqb f.kind 0x95)
+    (lines_of_body wide_pairs f.body) [])) (eq-eqb f.kind 0x94 kind)
+    ∙ ap (λ o. option_map_or (lines_behind (entries pair_front)) o [])
+    (index-front f.body is.front is.rest group is.parts is.first)
     ∙ ap (λ o. option_map_or (λ (p : ℕ × List ℕ). map (line_of group p.0) (entries pair_front p.1)) o [])
     (index-front is.rest rest.front rest.rest segment rest.parts rest.first)
     ∙ ap (map (line_of group segment)) (all-said lines rest.rest rest.second)

@@ -1,6 +1,6 @@
 -- Those elements of a list that pass a test, where they stand together.
-use Rattle.std.proofs.Common.{◌≡◌, ℕ, zero, suc, ◌+◌, ◌-◌, ◌<◌, ◌≤◌, Bool, true, false, cond, List, [], ◌∷◌, ◌++◌}
-use Rattle.std.proofs.Common.{length, take, drop, get_or, filter, eqb, ltb, leb, sym, ap, ap₂, refl, ◌∙◌, arith}
+use Rattle.std.proofs.Common.{◌≡◌, ℕ, suc, ◌+◌, ◌-◌, ◌<◌, ◌≤◌, Bool, true, false, cond, List, [], ◌∷◌, ◌++◌}
+use Rattle.std.proofs.Common.{length, take, drop, get_or, filter, ltb, leb, sym, ap, ap₂, refl, ◌∙◌, arith}
 use Rattle.std.proofs.Common.{append-nil, take-append-drop, get_or-take, get_or-drop, length-drop, length-take-le}
 use Rattle.std.proofs.Common.{ltb-true, ltb-false, leb-true, leb-false, eq-eqb, ne_eqb}
 use Rattle.std.specs.List.{AllWithin}

@@ -1,5 +1,6 @@
--- The line numbers that a module says (TIS OMF 1.1, "94H LINNUM: Line Numbers Record"), and its name.
-use Rattle.std.specs.Prelude.{ℕ, ◌+◌, ◌*◌, ◌==◌, ◌||◌, Bool, if◌then◌else◌, List, [], ◌∷◌, map, slice_get, Some, None}
+-- The line numbers that a module says (TIS OMF 1.1, "94H or 95H LINNUM: Line Numbers Record"), and its name.
+use Rattle.std.specs.Prelude.{ℕ, ◌+◌, ◌*◌, ◌==◌, ◌||◌, Bool, if◌then◌else◌, List, [], ◌∷◌, filter, map, nat_lt}
+use Rattle.std.specs.Prelude.{slice_get, Some, None}
 use Rattle.std.specs.declared.option.Option.{Option}
 use Rattle.std.specs.List.{flat_map}
 use Rattle.std.specs.Option.{option_and_then, option_map, option_map_or, unwrap_or}
@@ -15,18 +16,39 @@ pair_front (low ∷ high ∷ from_low ∷ from_high ∷ rest) =
     Some ((low + 256 * high, from_low + 256 * from_high), rest)
 pair_front bytes = None
 
+-- the same with an offset of four bytes
+abbrev pub wide_pair_front : List ℕ → Option ((ℕ × ℕ) × List ℕ)
+wide_pair_front (low ∷ high ∷ first ∷ second ∷ third ∷ fourth ∷ rest) =
+    Some ((low + 256 * high, first + 256 * second + 65536 * (third + 256 * fourth)), rest)
+wide_pair_front bytes = None
+
+-- a line number, and an offset that is one in a segment of at most 65,536 bytes
+abbrev pub is_in_16_bits : ℕ × ℕ → Bool
+is_in_16_bits (number, offset) = nat_lt offset 65536
+
+-- such line numbers alone
+abbrev pub wide_pairs : List ℕ → List (ℕ × ℕ)
+wide_pairs bytes = filter is_in_16_bits (entries wide_pair_front bytes)
+
 -- a line of a group and a segment
 abbrev pub line_of : (group segment : ℕ) → ℕ × ℕ → Line
 line_of group segment pair = record { number = pair.0; group = group; segment = segment; offset = pair.1 }
 
--- the lines behind the index of a group
-abbrev pub lines_behind : ℕ × List ℕ → List Line
-lines_behind (group, rest) =
-    option_map_or (λ (segment, pairs). map (line_of group segment) (entries pair_front pairs)) (index_front rest) []
+-- the lines behind the index of a group, where these are the line numbers in bytes
+abbrev pub lines_behind : (List ℕ → List (ℕ × ℕ)) → ℕ × List ℕ → List Line
+lines_behind pairs (group, rest) =
+    option_map_or (λ (segment, after). map (line_of group segment) (pairs after)) (index_front rest) []
 
--- the lines of a record: 94H LINNUM is the index of a group, that of a segment, and line numbers with their offsets
+-- those of the body of a record: the index of a group, that of a segment, and line numbers with their offsets
+abbrev pub lines_of_body : (List ℕ → List (ℕ × ℕ)) → List ℕ → List Line
+lines_of_body pairs body = option_map_or (lines_behind pairs) (index_front body) []
+
+-- the lines of a record: LINNUM, 94H with offsets of two bytes, 95H with offsets of four
 unfoldable pub lines_in : Frame → List Line
-lines_in f = if f.kind == 0x94 then option_map_or lines_behind (index_front f.body) [] else []
+lines_in f =
+    if f.kind == 0x94 then lines_of_body (entries pair_front) f.body
+    else if f.kind == 0x95 then lines_of_body wide_pairs f.body
+    else []
 
 -- those of the module that begins the bytes, in order of records
 abbrev pub module_lines : (bytes : List ℕ) → List Line
