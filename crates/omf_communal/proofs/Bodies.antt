@@ -6,8 +6,7 @@ use Rattle.std.proofs.lemmas.Bool.{eqb-false}
 use Rattle.std.specs.List.{flat_map}
 use Rattle.omf_record.specs.declared.segments.SegmentDefinition.{SegmentDefinition}
 use Rattle.omf_record.specs.declared.segments.SegmentLength.{SegmentLength}
-use Rattle.omf_record.specs.declared.externals.PublicBase.{PublicBase}
-use Rattle.omf_record.specs.declared.externals.PublicBase.TheVariants.{AtFrame, InSegment}
+use Rattle.omf_record.specs.declared.externals.PublicBase.TheVariants.{InSegment}
 use Rattle.omf_record.specs.declared.segments.Alignment.TheVariants as align
 use Rattle.omf_record.specs.declared.segments.Combination.TheVariants as combine
 use Rattle.omf_record.specs.declared.segments.SegmentLength.TheVariants as len
@@ -21,7 +20,6 @@ use Rattle.omf_write.proofs.Bodies.{each_text, header_fits, index_len, index_tex
 use Rattle.omf_write.proofs.Bodies.{segment_by}
 use Rattle.omf_write.specs.Segments.{length_of}
 use Rattle.omf_communal.specs.declared.places.Before.{Before}
-use Rattle.omf_communal.specs.inside.Planned.{IsBase}
 use Rattle.omf_communal.specs.Records.{dgroup, far_definition, far_names, near_definition, near_name}
 use Rattle.omf_communal.specs.Records.{near_names}
 
@@ -152,10 +150,3 @@ public_fits local group segment offset name g positive small o named =
         named.0,
       );
     }
-
--- the same by a base
-pub base_fits : (local : Bool) (base : PublicBase) (offset : ℕ) (name : List ℕ) → IsBase base → offset < 65536 →
-    IsName name → FitsFrame (Pubdef local base (record { name = name; offset = offset; type_index = 0 } ∷ []))
-base_fits local (AtFrame group frame) offset name h o named = absurd h
-base_fits local (InSegment group segment) offset name h o named =
-    public_fits local group segment offset name h.0 h.1 h.2 o named

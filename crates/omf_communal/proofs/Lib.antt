@@ -7,14 +7,12 @@ pub mod Widening
 pub mod Laying
 pub mod Bodies
 pub mod Putting
-pub mod Walking
 pub mod Searching
 pub mod Fitting
 pub mod Ready
 pub mod Sound
-pub mod Counting
-pub mod Added
-pub mod Extending
+pub mod Giving
 pub mod Once
 pub mod Apart
 pub mod Reaching
+pub mod LocalSaid

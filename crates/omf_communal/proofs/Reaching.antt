@@ -7,7 +7,6 @@ use Rattle.std.proofs.lemmas.List.Elements.{filter-append, filter_map-append}
 use Rattle.std.proofs.lemmas.Grind.{flat_map-append}
 use Rattle.std.specs.Borrow.{Bor}
 use Rattle.std.specs.List.{cons_option, enumerate_from, filter_map, flat_map, list_any}
-use Rattle.omf_module.specs.Module.{ExternalSymbol}
 use Rattle.omf_place.proofs.Walks.{take-push}
 use Rattle.omf_place.specs.Names.{agrees}
 use Rattle.omf_place.specs.declared.names.Names.{Names}

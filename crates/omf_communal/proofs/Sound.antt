@@ -1,4 +1,4 @@
--- The bytes of the module of a program's variables are those of a whole module that no check refuses.
+-- The bytes of a module of variables are those of a whole module that no check refuses.
 use Rattle.std.proofs.Common.{◌≡◌, ℕ, ◌+◌, ◌<◌, ◌≤◌, Bool, false, ◌||◌, eqb, List, [], ◌∷◌, ◌++◌, length, map}
 use Rattle.std.proofs.Common.{Option, Some, None, IfSome, refl, ap, sym, ◌∙◌, subst, arith, add-one, append_assoc}
 use Rattle.std.specs.Prelude.{codes}
@@ -58,10 +58,10 @@ open_all local in_bss b p =
       ),
     )
 
-to_end : (in_bss : Bool) (p : Plan) → AreToEnd (place_all 0 (records in_bss p))
-to_end in_bss p =
-    ended (Theadr (codes "communal") ∷ variable_records false in_bss nothing_before p)
-    (refl, open_all false in_bss nothing_before p) (Modend false None ∷ []) (λ at. refl) 0
+to_end : (local in_bss : Bool) (p : Plan) → AreToEnd (place_all 0 (records local in_bss p))
+to_end local in_bss p =
+    ended (Theadr (codes "communal") ∷ variable_records local in_bss nothing_before p)
+    (refl, open_all local in_bss nothing_before p) (Modend false None ∷ []) (λ at. refl) 0
 
 -- ---- each fits its frame
 
@@ -249,32 +249,34 @@ clean_variables local in_bss b p rest f k before at r =
       ),
     )
 
-clean_all : (in_bss : Bool) (p : Plan) → Fits nothing_before p → Clean [] (place_all 0 (records in_bss p))
-clean_all in_bss p f =
+clean_all : (local in_bss : Bool) (p : Plan) → Fits nothing_before p → Clean [] (place_all 0 (records local in_bss p))
+clean_all local in_bss p f =
     let header : Placed =
     record { place = 0; body = canonical (Theadr (codes "communal")); says = Theadr (codes "communal") } in (
       refl,
-      clean_variables false in_bss nothing_before p (Modend false None ∷ []) f
+      clean_variables local in_bss nothing_before p (Modend false None ∷ []) f
           (λ before at r. clean_end before at r.is_begun) (header ∷ []) _
           (record { is_begun = refl; name_count = refl; segment_count = refl; group_count = refl }),
     )
 
 -- ---- the whole
 
-module_sound : (in_bss : Bool) (p : Plan) → Fits nothing_before p → length (module_bytes in_bss p) < place_limit
-    → ModuleBytes (place_all 0 (records in_bss p)) (module_bytes in_bss p)
-module_sound in_bss p f short =
-    let fits : AllByRecursion FitsFrame (records in_bss p) = (
+pub module_sound : (local in_bss : Bool) (p : Plan) → Fits nothing_before p
+    → length (module_bytes local in_bss p) < place_limit
+    → ModuleBytes (place_all 0 (records local in_bss p)) (module_bytes local in_bss p)
+module_sound local in_bss p f short =
+    let all = records local in_bss p in
+    let fits : AllByRecursion FitsFrame all = (
       own_header_fits,
-      All-append FitsFrame (variable_records false in_bss nothing_before p) (Modend false None ∷ [])
-          (fit_all false in_bss nothing_before p f) (end_fits, tt),
+      All-append FitsFrame (variable_records local in_bss nothing_before p) (Modend false None ∷ [])
+          (fit_all local in_bss nothing_before p f) (end_fits, tt),
     ) in
     record {
-      records = (are_frames 0 (records in_bss p) fits (omega (arith, short)), are_bodies 0 (records in_bss p) fits);
-      ended = to_end in_bss p;
-      sound = clean_first [] (place_all 0 (records in_bss p)) (clean_all in_bss p f);
+      records = (are_frames 0 all fits (omega (arith, short)), are_bodies 0 all fits);
+      ended = to_end local in_bss p;
+      sound = clean_first [] (place_all 0 all) (clean_all local in_bss p f);
     }
 
-pub whole : AreWhole
-whole in_bss vs p named is short =
-    (place_all 0 (records in_bss p), module_sound in_bss p (plan_fits nothing_before vs p named is) short)
+pub whole : (local : Bool) → AreWhole local
+whole local in_bss vs p named is short =
+    (place_all 0 (records local in_bss p), module_sound local in_bss p (plan_fits nothing_before vs p named is) short)

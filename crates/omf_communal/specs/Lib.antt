@@ -10,7 +10,7 @@ pub mod Locals
 pub mod Bss
 pub mod Far
 pub mod Whole
-pub mod Extended
 pub mod Once
 pub mod Apart
+pub mod LocalModule
 pub mod inside

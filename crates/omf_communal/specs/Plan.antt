@@ -34,6 +34,10 @@ index_limit = 32767
 abbrev pub nothing_before : Before
 nothing_before = record { names = 0; segments = 0; groups = 0 }
 
+-- so many segments stand before them, whose names and groups aren't counted with theirs
+abbrev pub segments_before : ℕ → Before
+segments_before segments = record { names = 0; segments = segments; groups = 0 }
+
 -- no indexes are left for four names, a segment and a group
 abbrev pub is_full : Before → Bool
 is_full before =

@@ -1,4 +1,5 @@
--- The records of variables (TIS OMF 1.1, the section of each), and the bytes of the module that has those of a program.
+-- The records of variables (TIS OMF 1.1, the section of each), and the bytes of a module that has nothing else: of one
+-- with the variables of a program, or of one with the variables of a module, which are local publics.
 use Rattle.std.specs.Prelude.{ℕ, ◌+◌, Bool, false, List, [], ◌∷◌, ◌++◌, map, if◌then◌else◌, Option, None}
 use Rattle.std.specs.Prelude.{Some, codes}
 use Rattle.omf_record.specs.declared.segments.SegmentDefinition.{SegmentDefinition}
@@ -60,11 +61,11 @@ placed_records local before p =
 abbrev pub variable_records : (local in_bss : Bool) → Before → Plan → List Record
 variable_records local in_bss before p = near_names in_bss ∷ far_names ∷ placed_records local before p
 
--- the records of the module of a program's variables
-abbrev pub records : (in_bss : Bool) → Plan → List Record
-records in_bss p =
-    Theadr (codes "communal") ∷ (variable_records false in_bss nothing_before p ++ Modend false None ∷ [])
+-- the records of a module of variables
+abbrev pub records : (local in_bss : Bool) → Plan → List Record
+records local in_bss p =
+    Theadr (codes "communal") ∷ (variable_records local in_bss nothing_before p ++ Modend false None ∷ [])
 
 -- the module
-abbrev pub module_bytes : (in_bss : Bool) → Plan → List ℕ
-module_bytes in_bss p = records_bytes (records in_bss p)
+abbrev pub module_bytes : (local in_bss : Bool) → Plan → List ℕ
+module_bytes local in_bss p = records_bytes (records local in_bss p)

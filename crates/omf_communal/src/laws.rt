@@ -1,13 +1,20 @@
 //! Laws of the definitions, each the contract of a function that does nothing.
 
+ghost use Rattle.std.specs.Prelude.{false};
 ghost use Rattle.omf_communal.specs.Apart.{ArePlaced};
-ghost use Rattle.omf_communal.specs.Extended.{AreExtended};
+ghost use Rattle.omf_communal.specs.LocalModule.{AreLocalModules};
 ghost use Rattle.omf_communal.specs.Once.{AreOnce};
 ghost use Rattle.omf_communal.specs.Whole.{AreWhole};
 
 /// Reading the bytes of a module of communal variables finds no fault.
 pub fn communal_module_is_whole()
-    ensures { AreWhole }
+    ensures { AreWhole false }
+{}
+
+/// Nor does reading those of a module of variables that are local to a module. It says the segments, the group and the
+/// local publics of the variables' plan, and nothing else.
+pub fn local_variables_are_whole()
+    ensures { AreLocalModules }
 {}
 
 /// Each name that some module declares and none offers has one variable; it has all that a declaration of the name asks
@@ -20,10 +27,4 @@ pub fn one_variable_for_each_name()
 /// segments of its own, which have its bytes.
 pub fn places_are_apart()
     ensures { ArePlaced }
-{}
-
-/// A whole module with variables that are local to it is a whole module. It says all that it said before, by the same
-/// indexes, and behind that the segments, the group and the local publics of the variables' plan.
-pub fn local_module_is_whole()
-    ensures { AreExtended }
 {}

@@ -1,12 +1,11 @@
-//! The records of variables, and those of the module that has those of a program.
+//! The records of variables, and those of a module that has nothing else.
 
-ghost use Rattle.std.specs.Prelude.{◌≡◌, ◌++◌, ◌≤◌, [], ◌∷◌, Some, OnOk, if◌then◌else◌, length, map};
+ghost use Rattle.std.specs.Prelude.{◌≡◌, ◌++◌, ◌<◌, ◌≤◌, Some, OnOk, if◌then◌else◌, length, map};
 ghost use Rattle.std.specs.Option.{option_map};
-ghost use Rattle.omf_record.specs.Record.{Pubdef};
 ghost use Rattle.omf_record.specs.View.{view};
 ghost use Rattle.omf_write.specs.Records.{record_bytes, records_bytes};
 ghost use Rattle.omf_communal.specs.Records as records;
-ghost use Rattle.omf_communal.specs.inside.Planned.{parts_said, places_said, plan_said, room_said, IsBase};
+ghost use Rattle.omf_communal.specs.inside.Planned.{parts_said, places_said, plan_said, room_said};
 
 use crate::places::{Part, Place, Room};
 use crate::planning::{Plan, whole_room};
@@ -76,6 +75,15 @@ fn put_fars<A: Allocator + Copy>(
     Ok(())
 }
 
+/// What is said of the variables of a module, beside their plan.
+#[derive(Clone, Copy)]
+pub(crate) struct Form {
+    /// They are local to it.
+    pub local: bool,
+    /// The near ones are in the segment `_BSS`.
+    pub in_bss: bool,
+}
+
 /// The type of PUBDEF, or of LPUBDEF.
 fn public_type(local: bool) -> u8
     ensures { result ≡ if local then 0xB6 else 0x90 }
@@ -83,37 +91,52 @@ fn public_type(local: bool) -> u8
     if local { 0xB6 } else { 0x90 }
 }
 
-/// Appends the PUBDEF or LPUBDEF of a name in a segment of a group, or of none where that is 0.
+/// Where a variable stands.
+#[derive(Clone, Copy)]
+struct Standing {
+    /// The index of its group, or 0.
+    group: u16,
+    /// The index of its segment.
+    segment: u16,
+    offset: u16,
+    ghost group_in: { group ≤ 32767 },
+    ghost segment_positive: { 0 < segment },
+    ghost segment_in: { segment ≤ 32767 },
+}
+
+/// Appends the PUBDEF or LPUBDEF of the name of a variable.
 #[tactic(auto, unfolding(omf_record::specs::View::view))]
 fn put_public<A: Allocator + Copy>(
     alloc: A,
     local: bool,
     name: &[u8],
-    base: PublicBase,
-    offset: u16,
+    standing: Standing,
     out: &mut Vec<u8, A>,
 ) -> Result<(), AllocError>
-    requires short { length name.now ≤ 255 }
-    requires base { IsBase base }
-    ensures { OnOk result (out.new.items ≡ out.old.items ++ record_bytes (Pubdef local base
-        (record { name = name.now; offset = offset; type_index = 0 } ∷ []))) }
+    requires { length name.now ≤ 255 }
+    ensures { OnOk result (out.new.items ≡ out.old.items ++ record_bytes (records.place_record local (record {
+      name = name.now;
+      group = standing.group;
+      segment = standing.segment;
+      offset = standing.offset;
+    }))) }
 {
     let mut publics = Vec::new(alloc);
     publics.push(Public {
         name,
-        offset,
+        offset: standing.offset,
         type_index: 0,
     })?;
-    put_record(
-        alloc,
-        public_type(local),
-        &Record::Pubdef {
-            local,
-            base,
-            publics,
-        },
-        out,
-    )
+    let base = PublicBase::InSegment {
+        group: standing.group,
+        segment: standing.segment,
+    };
+    let record = Record::Pubdef {
+        local,
+        base,
+        publics,
+    };
+    put_record(alloc, public_type(local), &record, out)
 }
 
 /// Appends the PUBDEFs or LPUBDEFs of the names of variables.
@@ -127,11 +150,12 @@ fn put_places<A: Allocator + Copy>(
         out.old.items ++ records_bytes (map (records.place_record local) (places_said places.now))) }
 {
     for place in places {
-        let base = PublicBase::InSegment {
+        let standing = Standing {
             group: place.group,
             segment: place.segment,
+            offset: place.offset,
         };
-        put_public(alloc, local, place.name, base, place.offset, out)?;
+        put_public(alloc, local, place.name, standing, out)?;
     }
     Ok(())
 }
@@ -176,33 +200,33 @@ fn put_placed<A: Allocator + Copy>(
     put_places(alloc, local, &plan.places, out)
 }
 
-/// Appends the records of variables, which are local to their module or not.
-pub(crate) fn put_variables<A: Allocator + Copy>(
+/// Appends the records of variables.
+fn put_variables<A: Allocator + Copy>(
     alloc: A,
-    local: bool,
-    in_bss: bool,
+    form: Form,
     room: Room,
     plan: &Plan<'_, A>,
     out: &mut Vec<u8, A>,
 ) -> Result<(), AllocError>
-    ensures { OnOk result (out.new.items ≡
-        out.old.items ++ records_bytes (records.variable_records local in_bss (room_said room) (plan_said plan.now))) }
+    ensures { OnOk result (out.new.items ≡ out.old.items
+        ++ records_bytes (records.variable_records form.local form.in_bss (room_said room) (plan_said plan.now))) }
 {
-    put_names(alloc, b"DGROUP", near_name(in_bss), out)?;
+    put_names(alloc, b"DGROUP", near_name(form.in_bss), out)?;
     put_names(alloc, b"BSS", b"FAR_BSS", out)?;
-    put_placed(alloc, local, room, plan, out)
+    put_placed(alloc, form.local, room, plan, out)
 }
 
-/// Appends the records of the module that has the variables of a program.
+/// Appends the records of a module of variables.
 pub(crate) fn put_module<A: Allocator + Copy>(
     alloc: A,
-    in_bss: bool,
+    form: Form,
     plan: &Plan<'_, A>,
     out: &mut Vec<u8, A>,
 ) -> Result<(), AllocError>
-    ensures { OnOk result (out.new.items ≡ out.old.items ++ records.module_bytes in_bss (plan_said plan.now)) }
+    ensures { OnOk result (out.new.items ≡
+        out.old.items ++ records.module_bytes form.local form.in_bss (plan_said plan.now)) }
 {
     put_header(alloc, b"communal", out)?;
-    put_variables(alloc, false, in_bss, whole_room(), plan, out)?;
+    put_variables(alloc, form, whole_room(), plan, out)?;
     put_end(alloc, out)
 }

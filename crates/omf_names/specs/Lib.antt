@@ -1,3 +1,2 @@
 pub mod Records
-pub mod Starts
 pub mod Views

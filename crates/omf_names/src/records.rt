@@ -147,7 +147,7 @@ fn put_aliases<A: Allocator + Copy>(
 }
 
 /// Appends the end of a module, which has a start or none.
-pub(crate) fn put_end<A: Allocator + Copy>(
+fn put_end<A: Allocator + Copy>(
     has_start: Option<&str>,
     out: &mut Vec<u8, A>,
 ) -> Result<(), AllocError>

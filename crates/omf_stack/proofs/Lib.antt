@@ -5,3 +5,4 @@ pub mod Classes
 pub mod Promised
 pub mod Shortening
 pub mod Whole
+pub mod EachModule

@@ -3,6 +3,7 @@
 #![tactic(auto)]
 
 mod cutting;
+mod fault;
 mod finding;
 mod laws;
 mod making;
@@ -10,7 +11,8 @@ mod records;
 mod segments;
 mod stack;
 
-pub use cutting::cut_stack;
+pub use cutting::cut_stack_of;
+pub use fault::CutFault;
 pub use laws::stack_module_is_whole;
 pub use making::stack_module;
 pub use stack::Stack;

@@ -1,6 +1,8 @@
 -- Plans as the code holds them.
-use Rattle.std.specs.Prelude.{◌≡◌, ℕ, ◌<◌, ◌≤◌, true, false, List, map, Ok, Option, Some, None}
+use Rattle.std.specs.Prelude.{◌≡◌, ℕ, true, false, List, map, Ok, Option, Some, None}
+use Rattle.std.specs.declared.result.Result.{Result}
 use Rattle.std.specs.Option.{option_map}
+use Rattle.omf_communal.specs.declared.fault.PlanFault.{PlanFault}
 use Rattle.omf_communal.specs.declared.planning.Fars.{Fars}
 use Rattle.omf_communal.specs.declared.places.Before.{Before}
 use Rattle.omf_communal.specs.declared.places.Nears.{Nears}
@@ -8,8 +10,6 @@ use Rattle.omf_communal.specs.declared.places.Part.{Part}
 use Rattle.omf_communal.specs.declared.places.Place as lent
 use Rattle.omf_communal.specs.declared.places.Room.{Room}
 use Rattle.omf_communal.specs.declared.planning.Plan as held
-use Rattle.omf_record.specs.declared.externals.PublicBase.{PublicBase}
-use Rattle.omf_record.specs.declared.externals.PublicBase.TheVariants.{AtFrame, InSegment}
 use Rattle.omf_communal.specs.Deciding.{Variable}
 use Rattle.omf_communal.specs.Plan.{Place, Plan, is_full, far_lengths, far_places, near_end, near_places}
 
@@ -52,7 +52,6 @@ pub record AreFars {A : Type 0} (first : ℕ) (vs : List Variable) (f : Fars A) 
   pub places : far_places first 0 vs ≡ Ok (places_said f.places.items)
   pub parts : parts_said f.parts.items ≡ far_lengths vs
 
--- the indexes of a base are those of a group, or none, and of a segment
-abbrev pub IsBase : PublicBase → Type 0
-IsBase (AtFrame group frame) = ⊥
-IsBase (InSegment group segment) = (group ≤ 32767) × (0 < segment) × (segment ≤ 32767)
+-- there is a plan
+abbrev pub HasPlan : Result Plan PlanFault → Type 0
+HasPlan answer = (p : Plan) × (answer ≡ Ok p)

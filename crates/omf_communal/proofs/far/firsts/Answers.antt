@@ -1,9 +1,7 @@
 use Rattle.std.proofs.Common.{◌∙◌, ap, arith, false, get_or, refl}
 use Rattle.std.proofs.lemmas.List.{take_all}
-use Rattle.indexmap.specs.IndexSet.{contains}
 use Rattle.omf_communal.specs.Far as reach
 use Rattle.omf_communal.specs.Modules.{bytes_of}
-use Rattle.omf_keys.specs.Keys.{key_of, same_key}
 use Rattle.omf_communal.proofs.Listing.{offered-turn}
 use Rattle.omf_communal.proofs.Reaching.{first-next}
 use Rattle.omf_communal.proofs.far.firsts.Goals as goal

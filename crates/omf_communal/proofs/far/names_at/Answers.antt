@@ -1,4 +1,4 @@
-use Rattle.std.proofs.Common.{◌≡◌, ◌∙◌, ◌++◌, ap, sym}
+use Rattle.std.proofs.Common.{◌∙◌, ◌++◌, ap, sym}
 use Rattle.std.specs.List.{filter_map}
 use Rattle.omf_module.specs.Module.{DataRecord}
 use Rattle.omf_module.specs.Seen.{data_seen}

@@ -1,4 +1,4 @@
-use Rattle.std.proofs.Common.{◌≡◌, ◌∙◌, ap, arith, filter, map, refl, sym}
+use Rattle.std.proofs.Common.{◌∙◌, ap, arith, filter, map, refl, sym}
 use Rattle.std.proofs.lemmas.List.{take_all}
 use Rattle.std.specs.List.{list_any}
 use Rattle.omf_module.specs.Module.{ExternalSymbol}
