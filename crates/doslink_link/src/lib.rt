@@ -10,4 +10,4 @@ mod reading;
 pub use forms::in_form;
 pub use linking::{Linked, link_in_memory};
 pub use page::Page;
-pub use reading::{Read, read_all, read_in_front, read_one};
+pub use reading::read_one;

@@ -20,8 +20,8 @@ use Rattle.omf_communal.specs.declared.fault.PlanFault.{PlanFault}
 use Rattle.omf_communal.specs.declared.fault.PlanFault.TheVariants as plan
 use Rattle.omf_library.specs.declared.fault.FormatFault.{FormatFault}
 use Rattle.omf_library.specs.declared.fault.FormatFault.TheVariants as format
-use Rattle.omf_lower.specs.declared.fault.Obstacle.{Obstacle}
-use Rattle.omf_lower.specs.declared.fault.Obstacle.TheVariants as obstacle
+use Rattle.omf_plain.specs.declared.fault.Obstacle.{Obstacle}
+use Rattle.omf_plain.specs.declared.fault.Obstacle.TheVariants as obstacle
 use Rattle.omf_faults.specs.declared.fault.LinkFault.{LinkFault}
 use Rattle.omf_faults.specs.FaultLines as told
 use Rattle.omf_text.specs.Printing.{printed_name}
@@ -118,18 +118,19 @@ stock_line paths stock.Memory = None
 stock_line paths (stock.Library file place fault) =
     Some (located (path_of paths file) (format_label fault) (codes " at place ") place)
 
--- the label of what of a record can't be lowered
+-- the label of what keeps a record from being one of the fourteen
 abbrev pub obstacle_label : Obstacle → ℕ × List ℕ
+obstacle_label obstacle.OtherType = (5, codes "Type")
 obstacle_label obstacle.DataType = (48, codes "DataType")
 obstacle_label obstacle.Above16Bits = (49, codes "Above16Bits")
-obstacle_label obstacle.Location = (50, codes "Location")
+obstacle_label obstacle.OutsideData = (50, codes "Location")
 obstacle_label obstacle.Body = (51, codes "Body")
 obstacle_label obstacle.TooLong = (52, codes "TooLong")
 obstacle_label obstacle.EasyOmf = (63, codes "EasyOmf")
 obstacle_label obstacle.ImportedName = (64, codes "ImportedName")
 obstacle_label obstacle.FlatFrame = (65, codes "FlatFrame")
 
--- the line of a record that can't be lowered, by its place in its module
+-- the line of a record that is none of the fourteen, by its place in its module
 abbrev pub obstacle_line : (word : List ℕ) (place : ℕ) → Obstacle → List ℕ
 obstacle_line word place fault = located word (obstacle_label fault) (codes " at record ") place
 

@@ -10,7 +10,7 @@ use doslink_stock::StockFault;
 use omf_faults::{LinkFault, fault_line};
 use omf_frame::IoFault;
 use omf_library::FormatFault;
-use omf_lower::Obstacle;
+use omf_plain::Obstacle;
 use omf_text::{Lines, Piece, push_pieces};
 use std::alloc::{AllocError, Allocator};
 use std::io::ErrorKind;
@@ -191,7 +191,7 @@ pub fn push_fault<A: Allocator + Copy>(
     lines.extend_from_slice(&line)
 }
 
-/// The number and the name of what of a record can't be lowered.
+/// The number and the name of what keeps a record from being one of the fourteen.
 fn obstacle_label(obstacle: Obstacle) -> (u8, &'static str)
     ensures number { result.0 ≡ (spec.obstacle_label obstacle).0 }
     ensures name { result.1.now ≡ (spec.obstacle_label obstacle).1 }
@@ -199,7 +199,8 @@ fn obstacle_label(obstacle: Obstacle) -> (u8, &'static str)
     match obstacle {
         Obstacle::DataType => (48, "DataType"),
         Obstacle::Above16Bits => (49, "Above16Bits"),
-        Obstacle::Location => (50, "Location"),
+        Obstacle::OtherType => (5, "Type"),
+        Obstacle::OutsideData => (50, "Location"),
         Obstacle::Body => (51, "Body"),
         Obstacle::TooLong => (52, "TooLong"),
         Obstacle::EasyOmf => (63, "EasyOmf"),
@@ -208,7 +209,7 @@ fn obstacle_label(obstacle: Obstacle) -> (u8, &'static str)
     }
 }
 
-/// Appends the line of a record that can't be lowered, by its place in the module for which this is the word.
+/// Appends the line of a record that is none of the fourteen, by its place in the module for which this is the word.
 pub fn push_obstacle<A: Allocator + Copy>(
     lines: &mut Vec<u8, A>,
     word: &[u8],

@@ -1,0 +1,17 @@
+pub mod Aliases
+pub mod Chain
+pub mod Communals
+pub mod Joined
+pub mod Linked
+pub mod Locals
+pub mod Meanings
+pub mod Meant
+pub mod Names
+pub mod Orders
+pub mod Plain
+pub mod Request
+pub mod Sources
+pub mod Stacks
+pub mod Stops
+pub mod Sums
+pub mod inside
