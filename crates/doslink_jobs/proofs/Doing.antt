@@ -10,17 +10,18 @@ use Rattle.clap.specs.Words.{Text}
 use Rattle.doslink_words.specs.declared.job.Job.{Job}
 use Rattle.doslink_jobs.specs.declared.stop.Halt.{Halt}
 use Rattle.doslink_jobs.specs.declared.stop.Halt.TheVariants as halt
-use Rattle.doslink_jobs.specs.declared.stop.Stop.TheVariants.{Input, Device, Memory}
+use Rattle.doslink_passes.specs.declared.stop.Stop.TheVariants.{Input, Device, Memory}
 use Rattle.doslink_stock.specs.Files.{Held, needs}
-use Rattle.doslink_jobs.specs.Communals.{AreVariablesOf}
-use Rattle.doslink_jobs.specs.Jobs.{AreInputsOf, EndsWith, IsDone, IsLinkOf, names_of, taking_for}
-use Rattle.doslink_jobs.specs.Meant.{AreMeant}
+use Rattle.doslink_passes.specs.Communals.{AreVariablesOf}
+use Rattle.doslink_passes.specs.Chain.{AreModulesOf}
+use Rattle.doslink_passes.specs.Request.{bytes_in, names_of}
+use Rattle.doslink_jobs.specs.Jobs.{EndsWith, IsDone, IsLinkOf}
 use Rattle.doslink_jobs.specs.Places.{map_path, out_path}
 use Rattle.doslink_jobs.specs.Refusals.{AreMissingOf, IsFaulty, IsRefusedJob, IsRefusedOf}
 use Rattle.doslink_jobs.specs.Runs.{EndsBy}
 use Rattle.doslink_jobs.specs.Wrong.{AreApart, EndsJob, IsNamedWell, IsWrongJob}
 use Rattle.omf_files.specs.declared.world.Looked.{Looked}
-use Rattle.doslink_jobs.specs.inside.Inputs.{IsLinkedWith, IsRefusedWith}
+use Rattle.doslink_jobs.specs.inside.Links.{IsLinkedWith, IsRefusedWith}
 use Rattle.doslink_jobs.specs.inside.Stops.{OnHalt, halt_status, status_of}
 use Rattle.omf_search.specs.Said.{Module, Wanted}
 use Rattle.doslink_telling.specs.Missing.{unmet, wants_marks}
@@ -28,20 +29,20 @@ use Rattle.doslink_telling.specs.Missing.{unmet, wants_marks}
 -- a link of modules is one of what takes them
 pub link-of : (A : Type 0) (job : Job) (Written Other : List (List ℕ) → List omf.Module → Type 0)
     (modules : List Held) (takes : List Held → Type 0) → takes modules
-    → ((inputs : List (List ℕ)) (meant : List omf.Module) → Written inputs meant → Other inputs meant)
+    → ((sources : List (List ℕ)) (linked : List omf.Module) → Written sources linked → Other sources linked)
     → IsLinkOf A job Written (λ ms. ms ≡ modules) → IsLinkOf A job Other takes
-link-of A job Written Other modules takes taken written linked = record {
-  modules = linked.modules;
-  variables = linked.variables;
-  linked = linked.linked;
-  taken = subst takes (sym linked.taken) taken;
-  are_variables = linked.are_variables;
-  met = linked.met;
-  are_inputs = linked.are_inputs;
-  meant = linked.meant;
-  are_meant = linked.are_meant;
-  faultless = linked.faultless;
-  written = written linked.linked linked.meant linked.written;
+link-of A job Written Other modules takes taken written l = record {
+  modules = l.modules;
+  variables = l.variables;
+  widths = l.widths;
+  sources = l.sources;
+  linked = l.linked;
+  taken = subst takes (sym l.taken) taken;
+  are_variables = l.are_variables;
+  met = l.met;
+  are_linked = l.are_linked;
+  faultless = l.faultless;
+  written = written l.sources l.linked l.written;
 }
 
 -- modules that can't be linked are such of what takes them
@@ -50,48 +51,49 @@ pub link-refused : (A : Type 0) (job : Job) (modules : List Held) (takes : List 
 link-refused A job modules takes taken (ms, same, refused) = (ms, subst takes (sym same) taken, refused)
 
 -- modules that say so of names are linked with their communal variables
-pub linked-with : (A : Type 0) (job : Job) (Written : List (List ℕ) → List omf.Module → Type 0) (names : Names)
+pub linked-with : (A : Type 0) (job : Job) (Written : List (List ℕ) → List omf.Module → Type 0)
     (marks : Bool) (modules : List Held) (vs : List Variable) (says : List Module)
-    → names ≡ names_of job.ignore_case → says ≡ map needs modules → AreVariablesOf names modules vs
+    → says ≡ map needs modules → AreVariablesOf (names_of job.ignore_case) modules vs
     → (unmet (names_of job.ignore_case) says ≡ []) × (marks ≡ wants_marks (names_of job.ignore_case) says)
     → IsLinkedWith A job Written says marks modules vs → IsLinkOf A job Written (λ ms. ms ≡ modules)
-linked-with A job Written names marks modules vs says same all are (met, wants)
-    (linked, inputs, meant, are_meant, faultless, written) =
+linked-with A job Written marks modules vs says all are (met, wants)
+    (widths, sources, linked, are_linked, faultless, written) =
     let those = names_of job.ignore_case in
     let mine = map needs modules in
     record {
       modules = modules;
       variables = vs;
+      widths = widths;
+      sources = sources;
       linked = linked;
       taken = refl;
-      are_variables = subst (λ n. AreVariablesOf n modules vs) same are;
+      are_variables = are;
       met = ap (unmet those) (sym all) ∙ met;
-      are_inputs = subst (λ m. AreInputsOf job mine m modules vs linked) (wants ∙ ap (wants_marks those) all)
-          (subst (λ s. AreInputsOf job s marks modules vs linked) all inputs);
-      meant = meant;
-      are_meant = subst (λ s. AreMeant (taking_for job s) linked meant) all are_meant;
+      are_linked = subst (λ m. AreModulesOf job mine m modules vs widths sources linked)
+          (wants ∙ ap (wants_marks those) all)
+          (subst (λ s. AreModulesOf job s marks modules vs widths sources linked) all are_linked);
       faultless = faultless;
       written = written;
     }
 
 -- nothing is linked where a name is missing
-pub missing-with : (A : Type 0) (job : Job) (names : Names) (modules : List Held) (vs : List Variable)
-    (says : List Module) (own : List (List ℕ)) → names ≡ names_of job.ignore_case → says ≡ map needs modules
-    → own ≡ map (λ m. m.bytes) modules → AreVariablesOf names modules vs → AreMissingOf job says own
+pub missing-with : (A : Type 0) (job : Job) (modules : List Held) (vs : List Variable)
+    (says : List Module) (own : List (List ℕ)) → says ≡ map needs modules
+    → own ≡ bytes_in modules → AreVariablesOf (names_of job.ignore_case) modules vs → AreMissingOf job says own
     → IsRefusedOf A job (λ ms. ms ≡ modules)
-missing-with A job names modules vs says own same all mine are missing = (
+missing-with A job modules vs says own all mine are missing = (
   modules,
   refl,
   inr (inr (
     vs,
-    subst (λ n. AreVariablesOf n modules vs) same are,
+    are,
     inl (subst (λ o. AreMissingOf job (map needs modules) o) mine (subst (λ s. AreMissingOf job s own) all missing)),
   )),
 )
 
 -- nor where one of them is faulty
 pub faulty-with : (A : Type 0) (job : Job) (modules : List Held) (says : List Module) (own : List (List ℕ))
-    → says ≡ map needs modules → own ≡ map (λ m. m.bytes) modules → Any (IsFaulty job says own) own
+    → says ≡ map needs modules → own ≡ bytes_in modules → Any (IsFaulty job says own) own
     → IsRefusedOf A job (λ ms. ms ≡ modules)
 faulty-with A job modules says own all mine faulty = (
   modules,
@@ -101,16 +103,16 @@ faulty-with A job modules says own all mine faulty = (
 )
 
 -- nor where they can't be linked with these variables
-pub refused-with : (A : Type 0) (job : Job) (names : Names) (marks : Bool) (modules : List Held) (vs : List Variable)
-    (says : List Module) → names ≡ names_of job.ignore_case → says ≡ map needs modules
-    → AreVariablesOf names modules vs → marks ≡ wants_marks (names_of job.ignore_case) says
+pub refused-with : (A : Type 0) (job : Job) (marks : Bool) (modules : List Held) (vs : List Variable)
+    (says : List Module) → says ≡ map needs modules
+    → AreVariablesOf (names_of job.ignore_case) modules vs → marks ≡ wants_marks (names_of job.ignore_case) says
     → IsRefusedWith A job says marks modules vs → IsRefusedOf A job (λ ms. ms ≡ modules)
-refused-with A job names marks modules vs says same all are wants refused = (
+refused-with A job marks modules vs says all are wants refused = (
   modules,
   refl,
   inr (inr (
     vs,
-    subst (λ n. AreVariablesOf n modules vs) same are,
+    are,
     inr (subst (λ m. IsRefusedWith A job (map needs modules) m modules vs)
         (wants ∙ ap (wants_marks (names_of job.ignore_case)) all)
         (subst (λ s. IsRefusedWith A job s marks modules vs) all refused)),

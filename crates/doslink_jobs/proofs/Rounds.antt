@@ -18,11 +18,12 @@ use Rattle.doslink_stock.specs.Seen.{handed_held, handed_taken}
 use Rattle.doslink_jobs.specs.declared.gathering.DefaultLibrary.{DefaultLibrary}
 use Rattle.doslink_words.specs.declared.job.Job.{Job}
 use Rattle.doslink_words.specs.Tokens.{texts}
-use Rattle.doslink_jobs.specs.Jobs.{AreDefaults, AreFilesOf, AreRounds, IsAskedBy, IsNamedBy, is_left_out, names_of}
+use Rattle.doslink_passes.specs.Request.{names_of}
+use Rattle.doslink_jobs.specs.Jobs.{AreDefaults, AreFilesOf, AreRounds, IsAskedBy, IsNamedBy, is_left_out}
 use Rattle.doslink_jobs.specs.Jobs.{AreGiven, library_folders}
 use Rattle.doslink_jobs.specs.Refusals.{HasFaultyLibrary}
 use Rattle.doslink_jobs.specs.inside.Gathering.{AreAsked, AreNamed}
-use Rattle.doslink_jobs.proofs.Lists.{map-map}
+use Rattle.doslink_passes.proofs.Lists.{map-map}
 
 module _ (told : Text → Option (List ℕ)) (folders left_out : List Text) (names : Names) where
   -- a round more

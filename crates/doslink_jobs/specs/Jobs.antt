@@ -1,40 +1,30 @@
 -- What a job has done where it ends well, and how a run ends. `told` are the bytes of files by their paths, where the
 -- world tells them.
 use Rattle.std.specs.Prelude.{◌≡◌, ◌⊎◌, ◌-◌, ℕ, Bool, false, All, List, [], ◌∷◌, ◌++◌, codes, drop, length, map, take}
-use Rattle.std.specs.Prelude.{Ok, zip}
 use Rattle.std.specs.Prelude.{if◌then◌else◌}
 use Rattle.std.specs.declared.option.Option.{Option}
 use Rattle.std.specs.declared.result.Result.{Result}
 use Rattle.std.specs.List.{Contains, list_any}
+use Rattle.std.specs.Option.{option_to_list}
 use Rattle.clap.specs.Words.{Text}
-use Rattle.omf_alias.specs.Meaning.{Renaming}
 use Rattle.omf_frame.specs.declared.device.IoFault.{IoFault}
 use Rattle.omf_frame.specs.Device.{Writes}
 use Rattle.omf_place.specs.declared.names.Names.{Names}
-use Rattle.omf_place.specs.declared.names.Names.TheVariants.{AsciiFolded, Exact}
 use Rattle.omf_communal.specs.Deciding.{Variable}
-use Rattle.omf_image.specs.Overflow.{first_overflow, start_overflow}
-use Rattle.omf_lower.specs.declared.lowering.Lowering.{Lowering}
-use Rattle.omf_lower.specs.Module.{lowered}
 use Rattle.omf_module.specs.Module as omf
-use Rattle.omf_search.specs.Said.{Module}
+use Rattle.omf_plain.specs.declared.widths.Widths.{Widths}
 use Rattle.doslink_words.specs.declared.job.Job.{Job}
 use Rattle.doslink_words.specs.declared.job.Input.{Input}
 use Rattle.doslink_words.specs.declared.job.Input.TheVariants as input
 use Rattle.doslink_words.specs.Keywords.{is_keyword}
-use Rattle.doslink_words.specs.Said.{order_of}
 use Rattle.doslink_words.specs.Tokens.{texts}
 use Rattle.doslink_stock.specs.Search.{Takes}
 use Rattle.doslink_stock.specs.Files.{Held, needs}
 use Rattle.doslink_telling.specs.Missing.{unmet, wants_marks}
-use Rattle.doslink_jobs.specs.Aliases.{EndsIn, link_aliases, module_renaming}
-use Rattle.doslink_jobs.specs.Communals.{AreVariablesOf}
-use Rattle.doslink_jobs.specs.Joined.{AreJoined}
-use Rattle.doslink_jobs.specs.Locals.{HaveLocals}
-use Rattle.doslink_jobs.specs.Meant.{AreMeant, Taking}
-use Rattle.doslink_jobs.specs.Names.{names_files, started}
-use Rattle.doslink_jobs.specs.Orders.{Asking}
-use Rattle.doslink_jobs.specs.Overflow.{HaveOverflow, NarrowFixups, NarrowStart}
+use Rattle.doslink_passes.specs.Chain.{AreModulesOf}
+use Rattle.doslink_passes.specs.Communals.{AreVariablesOf}
+use Rattle.doslink_passes.specs.Names.{said_names}
+use Rattle.doslink_passes.specs.Request.{names_of}
 use Rattle.doslink_jobs.specs.Places.{map_path, out_path}
 use Rattle.doslink_jobs.specs.Written.{IsWritten}
 use Rattle.doslink_link.specs.Linking.{IsFaultless}
@@ -42,79 +32,24 @@ use Rattle.doslink_files.specs.declared.reading.Sought.{Sought}
 use Rattle.doslink_files.specs.declared.reading.Sought.TheVariants as sought
 use Rattle.doslink_files.specs.Files.{AreSought, IsFound}
 
--- which names agree, by `--ignore-case`
-abbrev pub names_of : Bool → Names
-names_of ignore_case = if ignore_case then AsciiFolded else Exact
-
 -- ---- the modules of a link
 
--- what names mean in each of the modules of a job, by its bytes, where the link's modules say so of names: the aliases
--- of each hold for all
-abbrev pub renaming_of : Job → (says : List Module) → (modules : List (List ℕ)) → (bytes : List ℕ) → Renaming
-renaming_of job says modules bytes = module_renaming (names_of job.ignore_case) says (link_aliases modules) bytes
-
--- these are the modules lowered, with what names mean in each
-abbrev pub AreLowered : Lowering → (means : List ℕ → Renaming) → (modules inputs : List (List ℕ)) → Type 0
-AreLowered lowering means modules inputs = map (λ m. lowered lowering (means m) m) modules ≡ map Ok inputs
-
--- how a job lowers modules
-abbrev pub lowering_of : Job → Lowering
-lowering_of job = record { keep_debug = job.keep_debug }
-
--- these are the modules lowered as a job asks for, with what names mean in each, and without their own starts where it
--- says where the program starts; none goes round for ever
-pub record AreLoweredFor (job : Job) (says : List Module) (modules inputs : List (List ℕ)) : Type 0 where
-  pub lowered : List (List ℕ)
-  pub end : All (EndsIn (names_of job.ignore_case) says (link_aliases modules)) modules
-  pub are_lowered : AreLowered (lowering_of job) (renaming_of job says modules) modules lowered
-  pub are_started : inputs ≡ map (started job) (zip modules lowered)
-
--- how a job takes the modules of a link that say so of names
-abbrev pub taking_for : Job → (says : List Module) → Taking
-taking_for job says =
-    record { names = names_of job.ignore_case; says = says; packs = job.packs_far_data }
-
--- what asks for the order of a job's modules, where marks are wanted or not
-abbrev pub asking_of : Job → (marks : Bool) → (modules : List Held) → Asking
-asking_of job marks modules = record {
-  names = names_of job.ignore_case;
-  marks = marks;
-  dosseg = list_any (λ m. m.dosseg) modules;
-  order = order_of job.order;
-  null_bytes = job.null_bytes;
-}
-
--- These are linked for the modules that a link takes, which say so of names: the modules lowered, each with the
--- variables that are local to it, and what is joined to them. Where fix-ups of 32 bits or a start became ones of 16,
--- none of their sums has more than 16 bits.
-pub record AreInputsOf (job : Job) (says : List Module) (marks : Bool) (modules : List Held) (vs : List Variable)
-    (linked : List (List ℕ)) : Type 0 where
-  pub lowered : List (List ℕ)
-  pub inputs : List (List ℕ)
-  pub are_lowered : AreLoweredFor job says (map (λ m. m.bytes) modules) lowered
-  pub have_locals : HaveLocals (names_of job.ignore_case) (map (λ m. m.bytes) modules) lowered inputs
-  pub joined : AreJoined (asking_of job marks modules) job.stack inputs vs linked
-  pub fit : NarrowFixups (map (λ m. m.bytes) modules) lowered
-      → HaveOverflow first_overflow (names_of job.ignore_case) (AreMeant (taking_for job says) linked) → ⊥
-  pub start_fits : NarrowStart (map (λ m. m.bytes) modules)
-      → HaveOverflow start_overflow (names_of job.ignore_case) (AreMeant (taking_for job says) linked) → ⊥
-
--- A link was done of the modules that it takes: none of their names is missing, and the modules that are meant by what
--- is linked for them have no fault. `Written` says of these that their program was written.
-pub record IsLinkOf (A : Type 0) (job : Job) (Written : (inputs : List (List ℕ)) → List omf.Module → Type 0)
+-- A link was done of the modules that it takes: none of their names is missing, and the modules that are linked for
+-- them have no fault. `Written` says of these, and of the bytes that they come from, that their program was written.
+pub record IsLinkOf (A : Type 0) (job : Job) (Written : (sources : List (List ℕ)) → List omf.Module → Type 0)
     (takes : List Held → Type 0) : Type 0 where
   pub modules : List Held
   pub variables : List Variable
-  pub linked : List (List ℕ)
+  pub widths : List Widths
+  pub sources : List (List ℕ)
+  pub linked : List omf.Module
   pub taken : takes modules
   pub are_variables : AreVariablesOf (names_of job.ignore_case) modules variables
   pub met : unmet (names_of job.ignore_case) (map needs modules) ≡ []
-  pub are_inputs : AreInputsOf job (map needs modules) (wants_marks (names_of job.ignore_case) (map needs modules))
-      modules variables linked
-  pub meant : List omf.Module
-  pub are_meant : AreMeant (taking_for job (map needs modules)) linked meant
-  pub faultless : IsFaultless A (names_of job.ignore_case) meant
-  pub written : Written linked meant
+  pub are_linked : AreModulesOf job (map needs modules) (wants_marks (names_of job.ignore_case) (map needs modules))
+      modules variables widths sources linked
+  pub faultless : IsFaultless A (names_of job.ignore_case) linked
+  pub written : Written sources linked
 
 -- ---- a job
 
@@ -126,6 +61,10 @@ sought_of (input.Library name) = sought.Library name
 -- the folders in which a job's libraries are looked up: its own, and behind them others, the environment's
 abbrev pub library_folders : (folders : List Text) → Job → List Text
 library_folders folders job = texts job.folders.items ++ folders
+
+-- the file with the module of what a job says of names, where it says something
+abbrev pub names_files : Job → List (List ℕ)
+names_files job = option_to_list (said_names job)
 
 -- these are the files that are given to the link: those that a job names, but for libraries that stand there already,
 -- and behind them the one of what it says of names

@@ -1,17 +1,8 @@
-pub mod Aliases
-pub mod Communals
 pub mod Jobs
-pub mod Joined
-pub mod Locals
 pub mod Maps
-pub mod Meant
-pub mod Names
-pub mod Orders
-pub mod Overflow
 pub mod Places
 pub mod Refusals
 pub mod Runs
-pub mod Stacks
 pub mod Written
 pub mod Wrong
 pub mod inside

@@ -13,21 +13,22 @@ ghost use Rattle.doslink_stock.specs.Searched.{Searched};
 ghost use Rattle.doslink_stock.specs.Seen.{handed_held};
 ghost use Rattle.doslink_words.specs.Tokens.{texts};
 ghost use Rattle.doslink_jobs.specs.Jobs as done;
-ghost use Rattle.doslink_jobs.specs.Jobs.{AreGiven, IsAskedBy, IsDefault, IsNamedBy, names_of};
+ghost use Rattle.doslink_passes.specs.Request.{names_of};
+ghost use Rattle.doslink_jobs.specs.Jobs.{AreGiven, IsAskedBy, IsDefault, IsNamedBy};
 ghost use Rattle.doslink_jobs.specs.Refusals.{HasFaultyLibrary};
 ghost use Rattle.doslink_jobs.specs.inside.Absent.{AreAbsentBehind, AreAbsentTold, AreLookedUp, absent_warning};
 ghost use Rattle.doslink_jobs.specs.inside.Absent.{absent_warnings, library_said, new_bytes, outcome_of};
 ghost use Rattle.doslink_jobs.specs.inside.Gathering.{AddsFaulty, AddsRounds, AreAsked, AreAskedBy, AreNamed, Holds};
 ghost use Rattle.doslink_jobs.specs.inside.Gathering.{AreStemsOf, IsFaultyJob, IsGathered, folded_stem};
-ghost use Rattle.doslink_jobs.specs.inside.Stops.{OnInput};
+ghost use Rattle.doslink_passes.specs.Stops.{OnInput};
 
-use crate::inputs::options_of;
 use crate::names::push_names_file;
-use crate::stop::{Stop, stop_after, stop_at_files, stop_unread};
+use crate::stop::{stop_at_files, stop_unread};
 use crate::words::Besides;
 use bumpalo::Bump;
 use doslink_asked::is_named;
 use doslink_files::{Folders, Found, InputFile, ReadFault, Sought, find_default, read_sought};
+use doslink_passes::{Stop, stop_after};
 use doslink_stock::{Handed, Stock, StockFault};
 use doslink_telling::{module_word, push_absent_line, push_rest, push_stock_fault, told_count};
 use doslink_words::{Input, Job};
@@ -607,7 +608,7 @@ pub(crate) fn gather<'f, W: World, A: Allocator + Copy>(
         paths: Vec::new(alloc),
         bytes: Vec::new(alloc),
         read: known_files(alloc, besides.read)?,
-        stock: Stock::new(alloc, options_of(job).names),
+        stock: Stock::new(alloc, doslink_passes::names_of(job)),
     };
     add_round(alloc, arena, &mut gathered, given, lines)?;
     add_asked(alloc, world, arena, job, folders, &mut gathered, lines)?;

@@ -1,31 +1,17 @@
 //! What `doslink` does: object modules and libraries become a program.
 #![tactic(auto)]
 
-mod aliases;
-mod communals;
-mod faults;
 mod faulty;
-mod filled;
+mod forms;
 mod gathering;
-mod inputs;
-mod kinds;
 mod linking;
-mod locals;
-mod lowering;
-mod meanings;
-mod meant;
 mod names;
-mod ordering;
-mod overflow;
 mod places;
 mod program;
-mod reading;
 mod running;
-mod stacking;
 mod stop;
 mod taking;
 mod warnings;
-mod widths;
 mod words;
 
 pub use program::map_bytes;

@@ -7,11 +7,12 @@ ghost use Rattle.doslink_files.specs.Standing.{has_file};
 ghost use Rattle.doslink_jobs.specs.Wrong as wrong;
 ghost use Rattle.doslink_jobs.specs.inside.Stops.{IsWords, OnHalt};
 
-use crate::stop::{Halt, Stop};
+use crate::stop::Halt;
 use doslink_asked::{
     extension_for, extension_of, first_file, is_output, other_form, path_after, with_extension,
 };
 use doslink_files::{is_one_of, is_one_place, stands_as_input};
+use doslink_passes::Stop;
 use doslink_telling::push_path_line;
 use doslink_words::{Input, Job, MapFile};
 use omf_files::{FileId, World};

@@ -7,12 +7,12 @@ ghost use Rattle.doslink_link.specs.Linking.{bytes_of};
 ghost use Rattle.doslink_words.specs.declared.job.MapForm.TheVariants.{Omf};
 ghost use Rattle.doslink_jobs.specs.Maps as spec;
 ghost use Rattle.doslink_jobs.specs.Written.{AreWritten};
-ghost use Rattle.doslink_jobs.specs.inside.Stops.{OnInput};
+ghost use Rattle.doslink_passes.specs.Stops.{OnInput};
 
 use crate::places::Places;
-use crate::stop::Stop;
 use doslink_files::put_file;
 use doslink_link::{Linked, Page};
+use doslink_passes::Stop;
 use doslink_telling::{push_unwritten_line, table};
 use doslink_words::{Job, MapForm};
 use link_map::{LinkedProgram, MapFault, MapForm as LinkerForm, Shown, Sources, write_shown_map};

@@ -3,97 +3,122 @@ ghost use Rattle.std.specs.Prelude.{◌≡◌, ◌⊎◌, ◌-◌, ◌^◌, ◌<
 ghost use Rattle.std.specs.Option.{option_map};
 ghost use Rattle.omf_communal.specs.Deciding.{variable_said};
 ghost use Rattle.omf_files.specs.Files.{sink_failures};
-ghost use Rattle.omf_search.specs.Results.{module_said};
+ghost use Rattle.doslink_stock.specs.Files.{needs};
 ghost use Rattle.doslink_stock.specs.Search.{Takes};
 ghost use Rattle.doslink_stock.specs.Searched.{Searched};
 ghost use Rattle.doslink_stock.specs.Seen.{handed_held};
 ghost use Rattle.doslink_words.specs.Tokens.{texts};
 ghost use Rattle.doslink_files.specs.Standing.{has_file};
 ghost use Rattle.doslink_files.specs.Written.{StandsAt};
-ghost use Rattle.doslink_jobs.specs.Jobs.{IsDone, IsLinkOf, Tells, names_of};
+ghost use Rattle.doslink_passes.specs.Request.{held_of, names_of, says_of};
+ghost use Rattle.doslink_passes.specs.Stops.{OnInput};
+ghost use Rattle.doslink_jobs.specs.Jobs.{IsDone, IsLinkOf, Tells};
 ghost use Rattle.doslink_jobs.specs.Places.{map_path, out_path};
 ghost use Rattle.doslink_jobs.specs.Refusals.{IsRefusedJob, IsRefusedOf};
 ghost use Rattle.doslink_jobs.specs.Written.{IsWritten};
 ghost use Rattle.doslink_jobs.specs.Wrong.{AreApart, EndsJob, IsNamedWell, IsWrongJob, NamesNothing, WritesOver};
 ghost use Rattle.doslink_jobs.specs.Wrong as wrong;
 ghost use Rattle.doslink_jobs.specs.Wrong.{asks_other_form, mixes_output, searches_too_many};
-ghost use Rattle.doslink_jobs.specs.inside.Inputs.{IsLinkedWith, IsRefusedWith};
+ghost use Rattle.doslink_jobs.specs.inside.Links.{IsLinkedWith, IsRefusedWith};
 ghost use Rattle.doslink_jobs.specs.inside.Stops as stops;
-ghost use Rattle.doslink_jobs.specs.inside.Stops.{OnHalt, OnInput, told_text};
+ghost use Rattle.doslink_jobs.specs.inside.Stops.{OnHalt, told_text};
 
-use crate::communals::variables_of;
 use crate::faulty::check_foreign;
 use crate::gathering::{Gathered, gather};
-use crate::inputs::{inputs_of, options_of};
 use crate::linking::write_program;
 use crate::places::{Places, check_form, check_output, places_of};
-use crate::stop::{Halt, Stop};
-use crate::taking::{Taken, check_names, tell_taken};
+use crate::stop::Halt;
+use crate::taking::{Taken, check_names, said_of, tell_taken};
 use crate::words::Besides;
 use bumpalo::Bump;
+use doslink_passes::{LinkRequest, Stop, modules_of, variables_of};
 use doslink_stock::Handed;
-use doslink_telling::{handed_saids, module_words};
+use doslink_telling::module_words;
 use doslink_words::Job;
 use omf_communal::Variable;
 use omf_files::{BufferedSink, World};
 use omf_frame::{Sink, put_all};
-use omf_search::Said;
 use std::alloc::Allocator;
 use std::io::Write;
 
 /// How many folders of libraries are searched at most, how many of objects, and how many of the environment's LIB.
 const MOST_FOLDERS: usize = 64;
 
-/// Links modules with their communal variables, where all say so of names and marks are wanted or not.
+/// Links the modules that a link takes, where none of their names is missing.
 fn link_checked<'a, W: World + Copy, A: Allocator + Copy>(
     alloc: A,
     world: W,
-    job: &Job<'_>,
     places: &Places<A>,
-    taken: &Taken<'_, '_, 'a, A>,
+    request: &LinkRequest<'_, '_, '_, 'a, A>,
     variables: &[Variable<'a>],
-    says: &[Said<'_, 'a>],
-    marks: bool,
     lines: &mut Vec<u8, A>,
 ) -> Result<(), Stop>
-    ensures { MatchResult result (λ done. IsLinkedWith A job.now
-        (IsWritten A job.now (StandsAt (W.blank world) (W.Puts world)) (string_bytes places.now.out)
-        (option_map string_bytes places.now.map) (names_of job.now.ignore_case))
-        (map module_said says.now) marks
-        (map handed_held taken.now.handed.now) (map variable_said variables.now))
-        (λ stop. OnInput stop (IsRefusedWith A job.now (map module_said says.now) marks
-        (map handed_held taken.now.handed.now) (map variable_said variables.now))) }
+    ensures { MatchResult result (λ done. IsLinkedWith A request.now.job.now
+        (IsWritten A request.now.job.now (StandsAt (W.blank world) (W.Puts world)) (string_bytes places.now.out)
+        (option_map string_bytes places.now.map) (names_of request.now.job.now.ignore_case))
+        (says_of request.now) request.now.marks (held_of request.now) (map variable_said variables.now))
+        (λ stop. OnInput stop (IsRefusedWith A request.now.job.now (says_of request.now) request.now.marks
+        (held_of request.now) (map variable_said variables.now))) }
 {
-    let all = inputs_of(alloc, job, taken, variables, says, marks, lines)?;
-    write_program(alloc, world, job, places, taken, variables, all, lines)
+    let linked = modules_of(alloc, request, variables, lines)?;
+    write_program(alloc, world, places, request, variables, linked, lines)
 }
 
 /// Links the modules that a link takes. Names that are missing stop it.
 fn link_taken<'m, 'a, W: World + Copy, A: Allocator + Copy>(
     alloc: A,
     world: W,
-    job: &Job<'_>,
-    gathered: &'m Gathered<'a, A>,
     places: &Places<A>,
-    taken: &Taken<'_, 'm, 'a, A>,
+    request: &LinkRequest<'_, '_, 'm, 'a, A>,
+    gathered: &'m Gathered<'a, A>,
     lines: &mut Vec<u8, A>,
 ) -> Result<(), Stop>
-    ensures { MatchResult result (λ done. IsLinkOf A job.now
-        (IsWritten A job.now (StandsAt (W.blank world) (W.Puts world)) (string_bytes places.now.out)
-        (option_map string_bytes places.now.map) (names_of job.now.ignore_case))
-        (λ ms. ms ≡ map handed_held taken.now.handed.now))
-        (λ stop. OnInput stop (IsRefusedOf A job.now (λ ms. ms ≡ map handed_held taken.now.handed.now))) }
+    requires { says_of request.now ≡ map needs (held_of request.now) }
+    ensures { MatchResult result
+        (λ done. IsLinkOf A request.now.job.now
+        (IsWritten A request.now.job.now (StandsAt (W.blank world) (W.Puts world)) (string_bytes places.now.out)
+        (option_map string_bytes places.now.map) (names_of request.now.job.now.ignore_case))
+        (λ ms. ms ≡ held_of request.now))
+        (λ stop. OnInput stop (IsRefusedOf A request.now.job.now (λ ms. ms ≡ held_of request.now))) }
 {
-    let says = handed_saids(alloc, taken.handed)?;
-    check_foreign(alloc, job, taken, &says, lines)?;
-    let variables = variables_of(alloc, options_of(job).names, taken, lines)?;
-    let marks = check_names(alloc, job, gathered, taken, &says, lines)?;
-    link_checked(
-        alloc, world, job, places, taken, &variables, &says, marks, lines,
-    )
+    check_foreign(alloc, request, lines)?;
+    let variables = variables_of(alloc, request, lines)?;
+    let marks = check_names(alloc, request, gathered, lines)?;
+    let request = LinkRequest { marks, ..*request };
+    link_checked(alloc, world, places, &request, &variables, lines)
 }
 
 /// Links the modules that a link takes, which are told where the job asks for that.
+fn link_told<'m, 'a, W: World + Copy, O: Write + Drop, A: Allocator + Copy>(
+    alloc: A,
+    world: W,
+    places: &Places<A>,
+    taken: &Taken<'_, '_, 'm, 'a, A>,
+    gathered: &'m Gathered<'a, A>,
+    output: &mut BufferedSink<O, A>,
+    lines: &mut Vec<u8, A>,
+) -> Result<(), Stop>
+    requires { sink_failures output.old ≡ 0 }
+    ensures { MatchResult result (λ done. IsLinkOf A taken.now.job.now
+        (IsWritten A taken.now.job.now (StandsAt (W.blank world) (W.Puts world)) (string_bytes places.now.out)
+        (option_map string_bytes places.now.map) (names_of taken.now.job.now.ignore_case))
+        (λ ms. ms ≡ map handed_held taken.now.handed.now))
+        (λ stop. OnInput stop
+        (IsRefusedOf A taken.now.job.now (λ ms. ms ≡ map handed_held taken.now.handed.now))) }
+{
+    tell_taken(alloc, taken, output, lines)?;
+    let says = said_of(alloc, taken.handed)?;
+    let request = LinkRequest {
+        job: taken.job,
+        handed: taken.handed,
+        words: taken.words,
+        says: &says,
+        marks: false,
+    };
+    link_taken(alloc, world, places, &request, gathered, lines)
+}
+
+/// Links the modules that a link takes of the files of a job.
 fn link_handed<'m, 'a, W: World + Copy, O: Write + Drop, A: Allocator + Copy>(
     alloc: A,
     world: W,
@@ -113,11 +138,11 @@ fn link_handed<'m, 'a, W: World + Copy, O: Write + Drop, A: Allocator + Copy>(
 {
     let words = module_words(alloc, &gathered.paths, handed)?;
     let taken = Taken {
+        job,
         handed,
         words: &words,
     };
-    tell_taken(alloc, job, output, &taken, lines)?;
-    link_taken(alloc, world, job, gathered, places, &taken, lines)
+    link_told(alloc, world, places, &taken, gathered, output, lines)
 }
 
 /// Links what a link takes of the files of a job.

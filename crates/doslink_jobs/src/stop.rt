@@ -1,48 +1,12 @@
 //! Why a run stops.
 ghost use Rattle.std.specs.Prelude.{◌≡◌};
-ghost use Rattle.doslink_jobs.specs.inside.Stops.{OnInput, halt_status, halt_text, stop_status, stop_text};
+ghost use Rattle.doslink_passes.specs.Stops.{OnInput};
+ghost use Rattle.doslink_jobs.specs.inside.Stops.{halt_status, halt_text};
 
 use doslink_files::{FilesFault, ReadFault, Unread};
+use doslink_passes::Stop;
 use doslink_telling::{Limit, push_unread_line};
 use std::alloc::{AllocError, AllocFailed, Allocator};
-
-/// Why the files of a job can't be linked.
-#[derive(Clone, Copy)]
-pub(crate) enum Stop {
-    /// An input is at fault, which was told.
-    Input,
-    /// A file or a device failed, which was told.
-    Device,
-    /// There was no memory.
-    Memory,
-}
-
-impl Stop {
-    /// The exit status.
-    pub(crate) fn status(self) -> u8
-        ensures { result ≡ stop_status self }
-    {
-        match self {
-            Stop::Input => 1,
-            Stop::Device | Stop::Memory => 3,
-        }
-    }
-}
-
-/// The line for want of memory.
-const MEMORY: &[u8] = b"doslink: memory\n";
-
-impl Stop {
-    /// What is told of a run that has told these lines.
-    pub(crate) fn text<'l>(self, lines: &'l [u8]) -> &'l [u8]
-        ensures { result.now ≡ stop_text self lines.now }
-    {
-        match self {
-            Stop::Input | Stop::Device => lines,
-            Stop::Memory => MEMORY,
-        }
-    }
-}
 
 /// Why a run stops before its program is written.
 #[derive(Clone, Copy)]
@@ -87,7 +51,7 @@ impl From<Stop> for Halt {
 
 impl From<AllocError> for Halt {
     ghost use Rattle.doslink_jobs.specs.declared.stop.Halt.TheVariants as halt;
-    ghost use Rattle.doslink_jobs.specs.declared.stop.Stop.TheVariants.{Memory};
+    ghost use Rattle.doslink_passes.specs.declared.stop.Stop.TheVariants.{Memory};
 
     ghost from_gives = { λ _ h. h ≡ halt.Stop Memory };
 
@@ -98,40 +62,12 @@ impl From<AllocError> for Halt {
 
 impl<T: Drop> From<AllocFailed<T>> for Halt {
     ghost use Rattle.doslink_jobs.specs.declared.stop.Halt.TheVariants as halt;
-    ghost use Rattle.doslink_jobs.specs.declared.stop.Stop.TheVariants.{Memory};
+    ghost use Rattle.doslink_passes.specs.declared.stop.Stop.TheVariants.{Memory};
 
     ghost from_gives = { λ _ h. h ≡ halt.Stop Memory };
 
     fn from(_error: AllocFailed<T>) -> Halt {
         Halt::Stop(Stop::Memory)
-    }
-}
-
-impl From<AllocError> for Stop {
-    ghost use Rattle.doslink_jobs.specs.declared.stop.Stop.TheVariants.{Memory};
-
-    ghost from_gives = { λ _ e. e ≡ Memory };
-
-    fn from(_error: AllocError) -> Stop {
-        Stop::Memory
-    }
-}
-
-impl<T: Drop> From<AllocFailed<T>> for Stop {
-    ghost use Rattle.doslink_jobs.specs.declared.stop.Stop.TheVariants.{Memory};
-
-    ghost from_gives = { λ _ e. e ≡ Memory };
-
-    fn from(_error: AllocFailed<T>) -> Stop {
-        Stop::Memory
-    }
-}
-
-/// The stop for an input at fault, once its line is told.
-pub(crate) fn stop_after(told: Result<(), AllocError>) -> Stop {
-    match told {
-        Ok(()) => Stop::Input,
-        Err(AllocError) => Stop::Memory,
     }
 }
 

@@ -1,21 +1,20 @@
 //! The modules that a link takes: told, and looked through for names that are missing.
-ghost use Rattle.std.specs.Prelude.{◌≡◌, [], IfErr, map, MatchResult};
+ghost use Rattle.std.specs.Prelude.{◌≡◌, [], IfErr, IfOk, map, MatchResult};
 ghost use Rattle.omf_search.specs.Results.{module_said};
+ghost use Rattle.doslink_stock.specs.Files.{needs};
 ghost use Rattle.doslink_stock.specs.Seen.{handed_held};
 ghost use Rattle.doslink_link.specs.Linking.{bytes_of};
+ghost use Rattle.doslink_passes.specs.Request.{given_of, names_of, says_of};
+ghost use Rattle.doslink_passes.specs.Stops.{OnInput};
 ghost use Rattle.doslink_telling.specs.Missing.{unmet, wants_marks};
-ghost use Rattle.doslink_telling.specs.Words.{word_at};
 ghost use Rattle.doslink_telling.specs.Offering.{all_offering};
-ghost use Rattle.doslink_jobs.specs.Jobs.{names_of};
 ghost use Rattle.doslink_jobs.specs.Refusals.{AreMissingOf};
 ghost use Rattle.doslink_jobs.specs.inside.Suspects.{HaveNoSuspect, HaveSuspect};
-ghost use Rattle.doslink_jobs.specs.inside.Stops.{OnInput};
 ghost use Rattle.omf_files.specs.Files.{sink_failures};
 
 use crate::faulty::{check_modules, check_offering};
 use crate::gathering::Gathered;
-use crate::inputs::options_of;
-use crate::stop::Stop;
+use doslink_passes::{LinkRequest, Stop};
 use doslink_stock::Handed;
 use doslink_telling::{handed_text, offering_members, push_fault, push_missing_lines, unmet_names};
 use doslink_words::Job;
@@ -29,30 +28,29 @@ use std::io::Write;
 /// The word for standard output in a fault's line.
 const STANDARD_OUTPUT: &[u8] = b"output";
 
-/// The modules that a link takes, and the words for them.
+/// The modules that a link takes for a job, and the words for them.
 #[derive(Clone, Copy)]
-pub(crate) struct Taken<'t, 'm, 'a, A: Allocator + Copy> {
+pub(crate) struct Taken<'t, 'j, 'm, 'a, A: Allocator + Copy> {
+    pub job: &'t Job<'j>,
     /// The modules, in their order.
     pub handed: &'t [Handed<'m, 'a, A>],
     /// For each its file's path, and the member's name in parentheses.
     pub words: &'t [Vec<u8, A>],
 }
 
-impl<'t, A: Allocator + Copy> Taken<'t, '_, '_, A> {
-    /// The word for the module with this index; none behind the last.
-    pub(crate) fn word(&self, index: usize) -> &'t [u8]
-        ensures { result.now ≡ word_at self.now.words.now index }
-    {
-        match self.words.get(index) {
-            Some(word) => word.as_slice(),
-            None => b"",
-        }
+/// What modules that a link takes say of names once no more are looked for, for as long as the modules stand.
+pub(crate) fn said_of<'m, 'a, A: Allocator + Copy>(
+    alloc: A,
+    handed: &[Handed<'m, 'a, A>],
+) -> Result<Vec<Said<'m, 'a>, A>, AllocError>
+    ensures { IfOk result (λ v. map module_said v.items ≡ map (λ h. needs (handed_held h)) handed.now) }
+{
+    let mut all = Vec::new(alloc);
+    for each in handed {
+        let entry = each.entry;
+        all.push(Said::needs(&entry.says))?;
     }
-
-    /// The words from that for the module with this index on; none behind the last.
-    pub(crate) fn words_from(&self, index: usize) -> &'t [Vec<u8, A>] {
-        &self.words[index.min(self.words.len())..]
-    }
+    Ok(all)
 }
 
 /// Writes a text to standard output.
@@ -86,15 +84,14 @@ fn tell_text<O: Write + Drop, A: Allocator + Copy>(
 /// Tells each module on standard output, where the job asks for that.
 pub(crate) fn tell_taken<O: Write + Drop, A: Allocator + Copy>(
     alloc: A,
-    job: &Job<'_>,
+    taken: &Taken<'_, '_, '_, '_, A>,
     output: &mut BufferedSink<O, A>,
-    taken: &Taken<'_, '_, '_, A>,
     lines: &mut Vec<u8, A>,
 ) -> Result<(), Stop>
     requires { sink_failures output.old ≡ 0 }
     ensures { IfErr result (λ stop. OnInput stop ⊥) }
 {
-    if !job.verbose {
+    if !taken.job.verbose {
         return Ok(());
     }
     let text = handed_text(alloc, taken.handed, taken.words)?;
@@ -105,36 +102,31 @@ pub(crate) fn tell_taken<O: Write + Drop, A: Allocator + Copy>(
 /// can't be read by which the symbol table of its archive offers one: that is told in their place, and stops.
 fn tell_missing<'m, 'a, A: Allocator + Copy>(
     alloc: A,
-    job: &Job<'_>,
+    request: &LinkRequest<'_, '_, 'm, 'a, A>,
     gathered: &'m Gathered<'a, A>,
-    taken: &Taken<'_, 'm, 'a, A>,
-    says: &[Said<'_, 'a>],
     missing: &[Wanted<'a>],
     lines: &mut Vec<u8, A>,
 ) -> Result<(), Stop>
     ensures { MatchResult result
-        (λ done. HaveNoSuspect job.now (map module_said says.now)
-        (map (λ h. (handed_held h).bytes) taken.now.handed.now)
-        (all_offering (names_of job.now.ignore_case) (map (λ w. w.name.now) missing.now)
+        (λ done. HaveNoSuspect request.now.job.now (says_of request.now) (given_of request.now)
+        (all_offering (names_of request.now.job.now.ignore_case) (map (λ w. w.name.now) missing.now)
         (bytes_of gathered.now.bytes.items)))
-        (λ stop. OnInput stop (HaveSuspect job.now (map module_said says.now)
-        (map (λ h. (handed_held h).bytes) taken.now.handed.now)
-        (all_offering (names_of job.now.ignore_case) (map (λ w. w.name.now) missing.now)
+        (λ stop. OnInput stop (HaveSuspect request.now.job.now (says_of request.now) (given_of request.now)
+        (all_offering (names_of request.now.job.now.ignore_case) (map (λ w. w.name.now) missing.now)
         (bytes_of gathered.now.bytes.items)))) }
 {
-    check_modules(alloc, job, taken, says, lines)?;
-    let names = options_of(job).names;
+    check_modules(alloc, request, lines)?;
     let paths = gathered.paths.as_slice();
-    let offering = offering_members(alloc, names, missing, &gathered.bytes)?;
-    check_offering(alloc, job, paths, taken, says, &offering, lines)?;
+    let offering = offering_members(alloc, request.names(), missing, &gathered.bytes)?;
+    check_offering(alloc, request, paths, &offering, lines)?;
     push_missing_lines(
         alloc,
         lines,
         paths,
         &gathered.stock,
-        taken.handed,
+        request.handed,
         missing,
-        job.verbose,
+        request.job.verbose,
     )?;
     Ok(())
 }
@@ -142,22 +134,19 @@ fn tell_missing<'m, 'a, A: Allocator + Copy>(
 /// Tells the names that are missing, or why they are, and stops; else hands out whether marks are wanted.
 pub(crate) fn check_names<'m, 'a, A: Allocator + Copy>(
     alloc: A,
-    job: &Job<'_>,
+    request: &LinkRequest<'_, '_, 'm, 'a, A>,
     gathered: &'m Gathered<'a, A>,
-    taken: &Taken<'_, 'm, 'a, A>,
-    says: &[Said<'_, 'a>],
     lines: &mut Vec<u8, A>,
 ) -> Result<bool, Stop>
     ensures { MatchResult result (λ marks.
-        (unmet (names_of job.now.ignore_case) (map module_said says.now) ≡ [])
-        × (marks ≡ wants_marks (names_of job.now.ignore_case) (map module_said says.now)))
-        (λ stop. OnInput stop (AreMissingOf job.now (map module_said says.now)
-        (map (λ h. (handed_held h).bytes) taken.now.handed.now))) }
+        (unmet (names_of request.now.job.now.ignore_case) (says_of request.now) ≡ [])
+        × (marks ≡ wants_marks (names_of request.now.job.now.ignore_case) (says_of request.now)))
+        (λ stop. OnInput stop (AreMissingOf request.now.job.now (says_of request.now) (given_of request.now))) }
 {
-    let unmet = unmet_names(alloc, options_of(job).names, says)?;
+    let unmet = unmet_names(alloc, request.names(), request.says)?;
     if unmet.missing.as_slice().is_empty() {
         return Ok(unmet.marks);
     }
-    tell_missing(alloc, job, gathered, taken, says, &unmet.missing, lines)?;
+    tell_missing(alloc, request, gathered, &unmet.missing, lines)?;
     Err(Stop::Input)
 }

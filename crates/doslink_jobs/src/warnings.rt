@@ -1,14 +1,13 @@
 //! Warnings of a program that was linked, and can't be run as it is meant.
 ghost use Rattle.std.specs.Prelude.{◌≡◌, ◌&&◌, ◌++◌, [], OnOk, map, nat_lt, slice_get};
 ghost use Rattle.std.specs.List.{flat_map, list_any};
-ghost use Rattle.std.specs.Option.{unwrap_or};
 ghost use Rattle.omf_communal.specs.Deciding.{variable_said};
 ghost use Rattle.omf_communal.specs.Far.{reached_said};
 ghost use Rattle.omf_place.specs.Parts.{is_kind};
 ghost use Rattle.doslink_link.specs.Linking.{bytes_of};
 ghost use Rattle.doslink_jobs.specs.inside.Warnings as spec;
 
-use crate::inputs::options_of;
+use doslink_passes::{names_of, word_at};
 use doslink_telling::{
     push_no_code, push_no_stack, push_no_start, push_reached, push_rest, told_count,
 };
@@ -164,16 +163,6 @@ fn warn_of_what_lacks<A: Allocator + Copy>(
     warn_of_code(modules, lines)
 }
 
-/// The word for the module with this index; empty behind the last.
-pub(crate) fn word_of<'w>(words: &[&'w [u8]], index: usize) -> &'w [u8]
-    ensures { result.now ≡ unwrap_or (slice_get (bytes_of words.now) index) [] }
-{
-    match words.get(index) {
-        Some(word) => word,
-        None => b"",
-    }
-}
-
 /// Warns of a far communal variable. The words are those of the modules.
 fn push_one<A: Allocator + Copy>(
     one: &Reached<'_>,
@@ -183,7 +172,7 @@ fn push_one<A: Allocator + Copy>(
     ensures { OnOk result (lines.new.items ≡ lines.old.items
         ++ spec.reached_warning (bytes_of words.now) (reached_said one.now)) }
 {
-    push_reached(lines, one.name, word_of(words, one.module))
+    push_reached(lines, one.name, word_at(words, one.module))
 }
 
 /// Warns of each of these far communal variables. The words are those of the modules.
@@ -213,7 +202,7 @@ fn warn_of_reached<A: Allocator + Copy>(
     ensures { OnOk result (lines.new.items ≡ lines.old.items ++ spec.reached_warnings job.now modules.now
         (map variable_said variables.now) (bytes_of words.now)) }
 {
-    let reached = far_by_offset(alloc, options_of(job).names, modules, variables)?;
+    let reached = far_by_offset(alloc, names_of(job), modules, variables)?;
     let reached = reached.as_slice();
     let told = told_count(reached.len(), job.verbose);
     push_told(&reached[..told], words, lines)?;

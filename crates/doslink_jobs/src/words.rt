@@ -10,9 +10,10 @@ ghost use Rattle.doslink_jobs.specs.Runs.{EndsBy};
 ghost use Rattle.doslink_jobs.specs.inside.Stops.{OnHalt};
 
 use crate::running::{finish, run_lines};
-use crate::stop::{Halt, Stop};
+use crate::stop::Halt;
 use bumpalo::Bump;
 use doslink_asked::{Asked, AskingFault, Request, Sources, asked_by};
+use doslink_passes::Stop;
 use omf_files::{BufferedSink, FileId, World};
 use omf_frame::{Sink, put_all};
 use std::alloc::Global;

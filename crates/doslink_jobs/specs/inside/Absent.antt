@@ -16,7 +16,8 @@ use Rattle.doslink_words.specs.declared.job.Job.{Job}
 use Rattle.doslink_words.specs.Tokens.{texts}
 use Rattle.doslink_jobs.specs.declared.gathering.DefaultLibrary.{DefaultLibrary}
 use Rattle.doslink_jobs.specs.declared.gathering.Gathered.{Gathered}
-use Rattle.doslink_jobs.specs.Jobs.{AreGiven, IsAskedBy, library_folders, names_of}
+use Rattle.doslink_passes.specs.Request.{names_of}
+use Rattle.doslink_jobs.specs.Jobs.{AreGiven, IsAskedBy, library_folders}
 use Rattle.doslink_jobs.specs.inside.Gathering.{Holds}
 use Rattle.doslink_telling.specs.Missing.{told_lines}
 

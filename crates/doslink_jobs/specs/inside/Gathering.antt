@@ -13,7 +13,8 @@ use Rattle.doslink_telling.specs.inside.Tables.{IsSetOf}
 use Rattle.doslink_words.specs.declared.job.Job.{Job}
 use Rattle.doslink_jobs.specs.declared.gathering.DefaultLibrary.{DefaultLibrary}
 use Rattle.doslink_jobs.specs.declared.gathering.Gathered.{Gathered}
-use Rattle.doslink_jobs.specs.Jobs.{AreFilesOf, AreRounds, IsAskedBy, IsNamedBy, library_stem, names_of}
+use Rattle.doslink_passes.specs.Request.{names_of}
+use Rattle.doslink_jobs.specs.Jobs.{AreFilesOf, AreRounds, IsAskedBy, IsNamedBy, library_stem}
 use Rattle.doslink_jobs.specs.Refusals.{HasFaultyLibrary}
 
 -- what of a library's name tells it from others: its stem in small letters

@@ -1,16 +1,10 @@
 -- The exit statuses of what stops a run, and what is told of it.
-use Rattle.std.specs.Prelude.{ℕ, List, codes, Ok, Err}
+use Rattle.std.specs.Prelude.{ℕ, List, Ok, Err}
 use Rattle.std.specs.declared.result.Result.{Result}
-use Rattle.doslink_jobs.specs.declared.stop.Stop.{Stop}
-use Rattle.doslink_jobs.specs.declared.stop.Stop.TheVariants.{Input, Device, Memory}
+use Rattle.doslink_passes.specs.Stops.{OnInput, stop_status, stop_text}
+use Rattle.doslink_passes.specs.declared.stop.Stop.TheVariants.{Input, Device, Memory}
 use Rattle.doslink_jobs.specs.declared.stop.Halt.{Halt}
 use Rattle.doslink_jobs.specs.declared.stop.Halt.TheVariants as halt
-
--- 1 where an input is at fault, 3 where a device or memory failed
-abbrev pub stop_status : Stop → ℕ
-stop_status Input = 1
-stop_status Device = 3
-stop_status Memory = 3
 
 -- 2 where words are wrong
 abbrev pub halt_status : Halt → ℕ
@@ -21,18 +15,6 @@ halt_status (halt.Stop stop) = stop_status stop
 abbrev pub status_of : Result (Unit {0}) Halt → ℕ
 status_of (Ok done) = 0
 status_of (Err why) = halt_status why
-
--- the lines, or that there was no memory
-abbrev pub stop_text : Stop → (lines : List ℕ) → List ℕ
-stop_text Input lines = lines
-stop_text Device lines = lines
-stop_text Memory lines = codes "doslink: memory\n"
-
--- where an input is at fault this holds
-abbrev pub OnInput : Stop → Type 0 → Type 0
-OnInput Input P = P
-OnInput Device P = Unit {0}
-OnInput Memory P = Unit {0}
 
 -- the lines, or that there was no memory
 abbrev pub halt_text : Halt → (lines : List ℕ) → List ℕ

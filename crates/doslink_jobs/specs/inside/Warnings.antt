@@ -13,7 +13,7 @@ use Rattle.doslink_telling.specs.Warnings.{no_code_line, no_stack_line, no_start
 use Rattle.doslink_words.specs.declared.job.Form.{Form}
 use Rattle.doslink_words.specs.declared.job.Job.{Job}
 use Rattle.doslink_words.specs.Said.{has_header}
-use Rattle.doslink_jobs.specs.Jobs.{names_of}
+use Rattle.doslink_passes.specs.Request.{names_of}
 
 -- a module says where the program starts
 abbrev pub has_start : Module → Bool

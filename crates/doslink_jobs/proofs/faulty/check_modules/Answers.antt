@@ -1,48 +1,36 @@
-use Rattle.std.proofs.Common.{All, map, subst, ap, ◌∙◌, arith}
+use Rattle.std.proofs.Common.{All, map, subst, arith}
 use Rattle.std.proofs.lemmas.List.{take_all}
-use Rattle.omf_alias.specs.Said.{aliases_said}
-use Rattle.omf_search.specs.Results.{module_said}
+use Rattle.doslink_passes.specs.Request.{given_of, says_of}
+use Rattle.doslink_passes.proofs.Endless.{all-turn}
+use Rattle.doslink_passes.proofs.Refused.{any-seen, refused-exit}
 use Rattle.doslink_stock.specs.Seen.{handed_held}
 use Rattle.doslink_jobs.specs.Refusals.{IsFaulty}
-use Rattle.doslink_jobs.proofs.Endless.{all-turn}
 use Rattle.doslink_jobs.proofs.FaultyModules.{by-job}
-use Rattle.doslink_jobs.proofs.Refused.{any-seen, refused-exit}
 use Rattle.doslink_jobs.proofs.faulty.check_modules.Goals as goal
 
 pub loop-index-preserved : goal.loop-index-preserved
 loop-index-preserved g c =
-    let m = c.in_ok-meanings.meanings in
-    let says = map module_said c.args.says.now in
-    let all = map (λ h. (handed_held h).bytes) c.args.taken.now.handed.now in
-    let one = c.each-item.result in
-    all-turn (λ bytes. IsFaulty c.args.job.now says all bytes → ⊥) (λ h. (handed_held h).bytes)
-    c.args.taken.now.handed.now c.loop-index.index one c.loop-index-test.true
-    c.each-item.is c.loop-index.invariant
-    (by-job c.args.job.now says all c.lowering_of-lowering.result m.names (map module_said m.says.now)
-    (aliases_said m.aliases.aliases.items) (handed_held one).bytes (λ faulty. faulty → ⊥)
-    c.lowering_of-lowering.ensures (c.in_ok-meanings.ensures.parts.0 ∙ c.options_of.ensures)
-    (ap (map module_said) c.in_ok-meanings.ensures.parts.1)
-    (c.in_ok-meanings.ensures.aliases ∙ c.in_ok-aliases.ensures) c.in_ok-check_module.ensures)
+    let r = c.args.request.now in
+    let one = c.index-handed-index.result in
+    all-turn (λ bytes. IsFaulty r.job.now (says_of r) (given_of r) bytes → ⊥) (λ h. (handed_held h).bytes)
+    r.handed.now c.loop-index.index one c.loop-index-test.true c.index-handed-index.is c.loop-index.invariant
+    (by-job r.job.now (says_of r) (given_of r) c.in_ok-meanings.meanings (handed_held one).bytes
+    (λ faulty. faulty → ⊥) c.in_ok-meanings.ensures c.in_ok-check_module.ensures)
 
 pub returns : goal.returns
 returns g c =
-    subst (λ hs. All (λ bytes. IsFaulty c.args.job.now (map module_said c.args.says.now)
-    (map (λ h. (handed_held h).bytes) c.args.taken.now.handed.now) bytes → ⊥)
-    (map (λ h. (handed_held h).bytes) hs)) (take_all c.loop-index.index c.args.taken.now.handed.now (omega arith))
+    let r = c.args.request.now in
+    subst (λ hs. All (λ bytes. IsFaulty r.job.now (says_of r) (given_of r) bytes → ⊥)
+    (map (λ h. (handed_held h).bytes) hs)) (take_all c.loop-index.index r.handed.now (omega arith))
     c.loop-index.invariant
 
 pub returns-in_err-check_module : goal.returns-in_err-check_module
 returns-in_err-check_module g c =
-    let m = c.in_ok-meanings.meanings in
-    let says = map module_said c.args.says.now in
-    let all = map (λ h. (handed_held h).bytes) c.args.taken.now.handed.now in
-    let one = c.each-item.result in
+    let r = c.args.request.now in
+    let one = c.index-handed-index.result in
     refused-exit _ c.from_residual-in_err-check_module.result _ c.from_residual-in_err-check_module.ensures.1
-    (λ faulty. any-seen (IsFaulty c.args.job.now says all) (λ h. (handed_held h).bytes) c.args.taken.now.handed.now
-    c.loop-index.index one c.loop-index-test.true c.each-item.is
-    (by-job c.args.job.now says all c.lowering_of-lowering.result m.names (map module_said m.says.now)
-    (aliases_said m.aliases.aliases.items) (handed_held one).bytes (λ f. f)
-    c.lowering_of-lowering.ensures (c.in_ok-meanings.ensures.parts.0 ∙ c.options_of.ensures)
-    (ap (map module_said) c.in_ok-meanings.ensures.parts.1)
-    (c.in_ok-meanings.ensures.aliases ∙ c.in_ok-aliases.ensures) faulty))
+    (λ faulty. any-seen (IsFaulty r.job.now (says_of r) (given_of r)) (λ h. (handed_held h).bytes) r.handed.now
+    c.loop-index.index one c.loop-index-test.true c.index-handed-index.is
+    (by-job r.job.now (says_of r) (given_of r) c.in_ok-meanings.meanings (handed_held one).bytes (λ f. f)
+    c.in_ok-meanings.ensures faulty))
     c.in_err-check_module.ensures

@@ -1,12 +1,13 @@
 use Rattle.std.proofs.Common.{◌≡◌, ◌++◌, ◌∷◌, [], false, true≢false, MatchResult, OnOk, ap}
 use Rattle.std.proofs.Common.{map, refl, subst, sym, ◌∙◌}
 use Rattle.doslink_words.specs.Tokens.{texts}
-use Rattle.doslink_jobs.specs.Jobs.{library_folders, names_of}
-use Rattle.doslink_jobs.proofs.Refused.{steps-weaker}
+use Rattle.doslink_passes.specs.Request.{names_of}
+use Rattle.doslink_jobs.specs.Jobs.{library_folders}
+use Rattle.doslink_passes.proofs.Refused.{steps-weaker}
 use Rattle.doslink_jobs.proofs.Rounds.{files-found, files-none}
 use Rattle.doslink_jobs.specs.inside.Absent.{AreAbsentBehind, absent_warnings, library_said}
 use Rattle.doslink_jobs.specs.inside.Gathering.{AddsFaulty, AddsRounds}
-use Rattle.doslink_jobs.specs.inside.Stops.{OnInput}
+use Rattle.doslink_passes.specs.Stops.{OnInput}
 use Rattle.doslink_jobs.proofs.Absent.{absent-done, absent-unasked}
 use Rattle.doslink_jobs.proofs.gathering.add_asked.Goals as goal
 

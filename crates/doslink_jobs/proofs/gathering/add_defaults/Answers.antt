@@ -9,7 +9,7 @@ use Rattle.doslink_jobs.specs.inside.Gathering.{AreAsked, Holds}
 use Rattle.doslink_jobs.proofs.Absent.{absent-more, length-contents, lookups-more, some-length, round-lookups}
 use Rattle.doslink_jobs.proofs.Absent.{rounds-more, with-none, with-some}
 use Rattle.doslink_jobs.proofs.Rounds.{AreRounds-more}
-use Rattle.doslink_jobs.proofs.Refused.{refused-exit}
+use Rattle.doslink_passes.proofs.Refused.{refused-exit}
 use Rattle.doslink_jobs.proofs.gathering.add_defaults.Goals as goal
 
 pub rounds-init : goal.rounds-init

@@ -3,7 +3,7 @@ use Rattle.doslink_files.specs.Files.{contents}
 use Rattle.doslink_link.specs.Linking.{bytes_of}
 use Rattle.doslink_stock.specs.Searched.{Searched}
 use Rattle.doslink_jobs.proofs.Rounds.{faulty-with}
-use Rattle.doslink_jobs.proofs.Refused.{OnInput-weaker, refused-exit}
+use Rattle.doslink_passes.proofs.Refused.{OnInput-weaker, refused-exit}
 use Rattle.doslink_jobs.proofs.gathering.add_round.Goals as goal
 
 pub returns-in_err-keep_files-clause-files : goal.returns-in_err-keep_files-clause-files

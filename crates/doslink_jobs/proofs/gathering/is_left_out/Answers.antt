@@ -2,7 +2,7 @@ use Rattle.std.proofs.Common.{◌∙◌, ap}
 use Rattle.std.specs.List.{list_any}
 use Rattle.std.specs.Str.{bytes_eq}
 use Rattle.doslink_words.specs.Keywords.{is_keyword}
-use Rattle.doslink_jobs.proofs.Lists.{any-map}
+use Rattle.doslink_passes.proofs.Lists.{any-map}
 use Rattle.doslink_jobs.specs.inside.Gathering.{folded_stem}
 use Rattle.doslink_jobs.proofs.gathering.is_left_out.Goals as goal
 

@@ -2,7 +2,7 @@ use Rattle.std.proofs.Common.{◌∙◌, ap, arith, map, subst}
 use Rattle.std.proofs.lemmas.List.{take_all}
 use Rattle.doslink_telling.specs.inside.Tables.{IsSetOf}
 use Rattle.doslink_jobs.specs.inside.Gathering.{folded_stem}
-use Rattle.doslink_jobs.proofs.Lists.{map-map}
+use Rattle.doslink_passes.proofs.Lists.{map-map}
 use Rattle.doslink_jobs.proofs.Stems.{names-more}
 use Rattle.doslink_jobs.proofs.gathering.stems_of.Goals as goal
 

@@ -1,7 +1,7 @@
 use Rattle.std.proofs.Common.{subst, sym}
 use Rattle.doslink_link.specs.Forms.{IsFormed}
-use Rattle.doslink_jobs.specs.declared.stop.Stop.TheVariants.{Memory}
-use Rattle.doslink_jobs.proofs.Refused.{refused-exit}
+use Rattle.doslink_passes.specs.declared.stop.Stop.TheVariants.{Memory}
+use Rattle.doslink_passes.proofs.Refused.{refused-exit}
 use Rattle.doslink_jobs.proofs.linking.formed.Goals as goal
 
 pub returns-in-Ok-clause-formed : goal.returns-in-Ok-clause-formed

@@ -3,7 +3,7 @@ use Rattle.std.specs.Option.{option_map}
 use Rattle.doslink_files.specs.Written.{StandsAt}
 use Rattle.doslink_stock.specs.Search.{Takes}
 use Rattle.doslink_stock.specs.Seen.{handed_held, handed_taken}
-use Rattle.doslink_jobs.specs.Jobs.{names_of}
+use Rattle.doslink_passes.specs.Request.{names_of}
 use Rattle.doslink_jobs.specs.Places.{map_path, out_path}
 use Rattle.doslink_jobs.specs.Written.{IsWritten}
 use Rattle.doslink_jobs.proofs.Doing.{link-of, link-refused}

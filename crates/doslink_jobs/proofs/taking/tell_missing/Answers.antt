@@ -1,21 +1,18 @@
 use Rattle.std.proofs.Common.{All, Any, inl, inr, map, subst}
-use Rattle.omf_search.specs.Results.{module_said}
-use Rattle.doslink_stock.specs.Seen.{handed_held}
-use Rattle.doslink_jobs.specs.Jobs.{names_of}
+use Rattle.doslink_passes.specs.Request.{given_of, names_of, says_of}
 use Rattle.doslink_jobs.specs.Refusals.{IsFaulty}
 use Rattle.doslink_jobs.proofs.FaultyModules.{offered-bytes}
-use Rattle.doslink_jobs.proofs.Refused.{refused-exit}
+use Rattle.doslink_passes.proofs.Refused.{refused-exit}
 use Rattle.doslink_jobs.proofs.taking.tell_missing.Goals as goal
 
 pub returns : goal.returns
 returns g c =
-    let says = map module_said c.args.says.now in
-    let all = map (λ h. (handed_held h).bytes) c.args.taken.now.handed.now in (
+    let r = c.args.request.now in (
       c.in_ok-check_modules.ensures,
-      subst (All (λ bytes. IsFaulty c.args.job.now says all bytes → ⊥))
-          (offered-bytes c.deref-2.result.now c.in_ok-offering.offering.items c.options_of-names.result.names
-          (names_of c.args.job.now.ignore_case) (map (λ w. w.name.now) c.args.missing.now) c.deref.result.now
-          c.args.gathered.now.bytes.items c.deref-2.ensures.value c.in_ok-offering.ensures c.options_of-names.ensures
+      subst (All (λ bytes. IsFaulty r.job.now (says_of r) (given_of r) bytes → ⊥))
+          (offered-bytes c.deref-2.result.now c.in_ok-offering.offering.items c.names.result
+          (names_of r.job.now.ignore_case) (map (λ w. w.name.now) c.args.missing.now) c.deref.result.now
+          c.args.gathered.now.bytes.items c.deref-2.ensures.value c.in_ok-offering.ensures c.names.ensures
           c.deref.ensures.value)
           c.in_ok-check_offering.ensures,
     )
@@ -27,15 +24,14 @@ returns-in_err-check_modules g c =
 
 pub returns-in_err-check_offering : goal.returns-in_err-check_offering
 returns-in_err-check_offering g c =
-    let says = map module_said c.args.says.now in
-    let all = map (λ h. (handed_held h).bytes) c.args.taken.now.handed.now in
+    let r = c.args.request.now in
     refused-exit _ c.from_residual-in_err-check_offering.result _ c.from_residual-in_err-check_offering.ensures.1
     (λ some. inr (
       c.in_ok-check_modules.ensures,
-      subst (Any (IsFaulty c.args.job.now says all))
-          (offered-bytes c.deref-2.result.now c.in_ok-offering.offering.items c.options_of-names.result.names
-          (names_of c.args.job.now.ignore_case) (map (λ w. w.name.now) c.args.missing.now) c.deref.result.now
-          c.args.gathered.now.bytes.items c.deref-2.ensures.value c.in_ok-offering.ensures c.options_of-names.ensures
+      subst (Any (IsFaulty r.job.now (says_of r) (given_of r)))
+          (offered-bytes c.deref-2.result.now c.in_ok-offering.offering.items c.names.result
+          (names_of r.job.now.ignore_case) (map (λ w. w.name.now) c.args.missing.now) c.deref.result.now
+          c.args.gathered.now.bytes.items c.deref-2.ensures.value c.in_ok-offering.ensures c.names.ensures
           c.deref.ensures.value)
           some,
     ))

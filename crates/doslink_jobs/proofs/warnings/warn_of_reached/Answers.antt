@@ -31,7 +31,7 @@ returns g c =
     let left : length some - n ≡ length all - told = ap (λ k. k - n) (sym len) ∙ ap (λ k. length all - k) same in
     let found : all ≡ far_by_offset _ (map variable_said c.args.variables.now) c.args.modules.now =
     ap (map reached_said) c.as_slice-reached.ensures.value ∙ c.in_ok-reached.ensures
-    ∙ ap (λ n. far_by_offset n (map variable_said c.args.variables.now) c.args.modules.now) c.options_of.ensures in
+    ∙ ap (λ n. far_by_offset n (map variable_said c.args.variables.now) c.args.modules.now) c.names_of.ensures in
     subst (λ l. OnOk r (s2 ≡ s0 ++ told_lines line l tells_all)) found
     (then-ok r s0 s1 s2 (flat_map line (take told all)) (rest_text (length all - told)) first
     (subst (λ k. OnOk r (s2 ≡ s1 ++ rest_text k)) left c.push_rest.ensures))

@@ -1,5 +1,0 @@
--- How the code sees what it works on: no public contract cites any of it.
-pub mod Views
-pub mod Tails
-pub mod Recipes
-pub mod Drafts
