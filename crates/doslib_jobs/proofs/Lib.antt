@@ -1,2 +1,4 @@
+pub mod Finding
 pub mod Libraries
 pub mod Running
+pub mod Searching

@@ -15,7 +15,7 @@ use Rattle.doslib_jobs.specs.declared.fault.Stopped.{Stopped}
 use Rattle.doslib_jobs.specs.declared.outcome.Outcome.{Outcome}
 use Rattle.doslib_jobs.specs.Jobs.{ArePutUpTo, Does, IsBehind, IsKept, Read, StandsAsObject, Takes, object_path}
 use Rattle.doslib_jobs.specs.Libraries.{Source, is_library, source_of}
-use Rattle.doslib_jobs.specs.LibraryLines.{unwritten_line}
+use Rattle.doslib_jobs.specs.Reading.{unwritten_line}
 use Rattle.doslib_jobs.specs.inside.Libraries.{DoesBy, HasTaken, TakesFile, extracted_said}
 use Rattle.doslib_jobs.specs.inside.Running.{outcome_said}
 use Rattle.doslib_jobs.proofs.Running.{ran-more}

@@ -19,14 +19,15 @@ use Rattle.doslib_text.specs.Listing.{list_text, listing}
 use Rattle.doslib_text.specs.Parts.{fault_in, members_in, whole_members}
 use Rattle.doslib_words.specs.Words.{texts}
 use Rattle.doslib_jobs.specs.declared.outcome.Outcome.{Outcome}
-use Rattle.doslib_jobs.specs.Jobs.{IsRead, Ran, Read, greatest, read_status}
+use Rattle.doslib_jobs.specs.Jobs.{IsRead, Ran, Read, read_status}
+use Rattle.doslib_jobs.specs.Reading.{greatest}
 use Rattle.doslib_jobs.specs.inside.Running.{Adds}
 
 pub greatest-push : (ns : List ℕ) (n : ℕ) → greatest (ns ++ n ∷ []) ≡ max (greatest ns) n
 greatest-push [] n = omega arith
 greatest-push (m ∷ ns) n = omega (arith, greatest-push ns n)
 
-pub flat_map-push : {X : Type 0} (f : X → List ℕ) (xs : List X) (x : X)
+pub flat_map-push : {X Z : Type 0} (f : X → List Z) (xs : List X) (x : X)
     → flat_map f (xs ++ x ∷ []) ≡ flat_map f xs ++ f x
 flat_map-push f xs x = flat_map-append f xs (x ∷ []) ∙ ap (λ l. flat_map f xs ++ l) (append-nil (f x))
 

@@ -10,6 +10,7 @@ use Rattle.command_line.specs.declared.words_fault.WordsFault.{WordsFault}
 use Rattle.command_line.specs.declared.words_fault.WordsFault.TheVariants.{Help, Wrong, Memory}
 use Rattle.omf_frame.specs.declared.device.IoFault.{IoFault}
 use Rattle.omf_frame.specs.Device.{Writes}
+use Rattle.omf_files.specs.declared.world.Looked.{Looked}
 use Rattle.omf_librarian.specs.Library.{PlainLibrary, library_of}
 use Rattle.omf_librarian.specs.declared.fault.LibrarianFault.{LibrarianFault}
 use Rattle.omf_library.specs.Files.{file_kind}
@@ -25,13 +26,16 @@ use Rattle.doslib_text.specs.Listing.{list_text}
 use Rattle.doslib_jobs.specs.declared.fault.Stopped.{Stopped}
 use Rattle.doslib_jobs.specs.declared.fault.Stopped.TheVariants as stopped
 use Rattle.doslib_words.specs.declared.words.Job.{Job}
-use Rattle.doslib_words.specs.declared.words.Job.TheVariants.{List as ListJob, Show as ShowJob, Make, Add, Delete}
-use Rattle.doslib_words.specs.declared.words.Job.TheVariants.{Replace, Extract, Names as NamesJob}
+use Rattle.doslib_words.specs.declared.words.Job.TheVariants.{List as ListJob, Show as ShowJob, Program as ProgramJob}
+use Rattle.doslib_words.specs.declared.words.Job.TheVariants.{Match as MatchJob, Names as NamesJob, Make, Add, Delete}
+use Rattle.doslib_words.specs.declared.words.Job.TheVariants.{Replace, Extract}
 use Rattle.doslib_jobs.specs.Libraries.{NotLibrary, Refusal, Source, added, all_deleted, all_extracted, all_held}
 use Rattle.doslib_jobs.specs.Libraries.{all_modules, all_replaced, in_library, is_library, made, source_of}
-use Rattle.doslib_jobs.specs.LibraryLines.{doubled_lines, librarian_line, refusal_line, unwritten_line}
-use Rattle.doslib_jobs.specs.Reading.{faults_status, unread_line}
-use Rattle.doslib_words.specs.Words.{IsJobFor, doslib_command, texts}
+use Rattle.doslib_jobs.specs.LibraryLines.{doubled_lines, librarian_line, refusal_line}
+use Rattle.doslib_jobs.specs.Matching.{Matches}
+use Rattle.doslib_jobs.specs.Program.{TellsProgram}
+use Rattle.doslib_jobs.specs.Reading.{file_status, greatest, unread_line, unwritten_line}
+use Rattle.doslib_words.specs.Words.{IsJobFor, IsRefusalFor, doslib_command, texts}
 
 -- ---- files
 
@@ -62,18 +66,9 @@ abbrev pub IsRead : (tells : List ℕ → List ℕ → List ℕ → List ℕ →
     → Type 0
 IsRead tells told r = IfOk r.bytes (IsTold (told r.path)) × IsToldOf tells r.path r.bytes r.text r.faults
 
--- the status of a file: 0, 1 where it is at fault, and 3 where it isn't read
-abbrev pub file_status : Result (List ℕ) ReadFault → (faults : List ℕ) → ℕ
-file_status (Ok bytes) faults = faults_status faults
-file_status (Err fault) faults = 3
-
+-- the status of one
 abbrev pub read_status : Read → ℕ
 read_status r = file_status r.bytes r.faults
-
--- the greatest of some numbers, and 0 of none
-abbrev pub greatest : List ℕ → ℕ
-greatest [] = 0
-greatest (n ∷ ns) = max n (greatest ns)
 
 -- ---- jobs
 
@@ -188,33 +183,39 @@ pub record TellsNames (told : List ℕ → Option (List ℕ)) (names : Names) (p
 
 -- ---- what a job comes to
 
--- unless it stops. `told` are the bytes of files by their paths, where they are told, and `Stands` says that a file of
--- these bytes was put at a path
-abbrev pub Answers : (told : Text → Option (List ℕ)) → (Stands : (path bytes : List ℕ) → Type 0) → Job
-    → (old new : Option (List ℕ)) → Result (List ℕ × ℕ) Stopped → Type 0
-Answers told Stands (ListJob files) old new answer =
+-- What a job comes to, unless it stops. `told` are the bytes of files by their paths, where they are told, `looks` is
+-- what stands at each path, where that is told, and `Stands` is what the world promises of a file of these bytes that
+-- was put at a path.
+abbrev pub Answers : (told : Text → Option (List ℕ)) → (looks : Option (Text → Option Looked))
+    → (Stands : (path bytes : List ℕ) → Type 0) → Job → (old new : Option (List ℕ)) → Result (List ℕ × ℕ) Stopped
+    → Type 0
+Answers told looks Stands (ListJob files) old new answer =
     IfOk answer (λ o. Ran Lists told (texts files.items) old new o.0 o.1)
-Answers told Stands (ShowJob files) old new answer =
+Answers told looks Stands (ShowJob files) old new answer =
     IfOk answer (λ o. Ran Shows told (texts files.items) old new o.0 o.1)
-Answers told Stands (Make library files) old new answer =
+Answers told looks Stands (ProgramJob file image) old new answer =
+    IfOk answer (TellsProgram told looks Stands file.now image old new)
+Answers told looks Stands (MatchJob program files) old new answer =
+    IfOk answer (Matches told program.now (texts files.items) old new)
+Answers told looks Stands (NamesJob ignore_case files) old new answer =
+    IfOk answer (λ o. TellsNames told (choice_of ignore_case) (texts files.items) old new o.0 o.1)
+Answers told looks Stands (Make library files) old new answer =
     IfOk answer (λ o. Does told (texts files.items)
     (λ sources. IsChanged Stands library.now (made sources)) old new o.0 o.1
     ⊎ ((new ≡ old) × IsKept told library.now o.0 o.1))
-Answers told Stands (Add library files) old new answer =
+Answers told looks Stands (Add library files) old new answer =
     IfOk answer (λ o. Does told (library.now ∷ texts files.items)
     (λ sources. IsChanged Stands library.now (in_library added sources)) old new o.0 o.1)
-Answers told Stands (Delete library members) old new answer =
+Answers told looks Stands (Delete library members) old new answer =
     IfOk answer (λ o. Does told (library.now ∷ [])
     (λ sources. IsChanged Stands library.now
     (in_library (λ olds more. all_deleted (texts members.items) olds) sources)) old new o.0 o.1)
-Answers told Stands (Replace library files) old new answer =
+Answers told looks Stands (Replace library files) old new answer =
     IfOk answer (λ o. Does told (library.now ∷ texts files.items)
     (λ sources. IsChanged Stands library.now (in_library all_replaced sources)) old new o.0 o.1)
-Answers told Stands (Extract library members) old new answer =
+Answers told looks Stands (Extract library members) old new answer =
     IfOk answer (λ o. Does told (library.now ∷ [])
     (λ sources. IsExtracted Stands library.now (texts members.items) (all_modules sources)) old new o.0 o.1)
-Answers told Stands (NamesJob ignore_case files) old new answer =
-    IfOk answer (λ o. TellsNames told (choice_of ignore_case) (texts files.items) old new o.0 o.1)
 
 -- the text was written, unless the run stopped
 abbrev pub Prints : Text → (old new : Option (List ℕ)) → Result (List ℕ × ℕ) Stopped → Type 0
@@ -257,10 +258,11 @@ EndsRefused Memory old new tells code = (new ≡ old) × Ends (λ answer. answer
 EndsRefused (Help text) old new tells code = Ends (Prints (string_bytes text) old new) tells code
 
 -- How a run ends: as the job does that the words ask for, or as one whose words are refused. Words that the command
--- takes are refused for want of memory alone.
-abbrev pub Runs : (told : Text → Option (List ℕ)) → (Stands : (path bytes : List ℕ) → Type 0) → (words : List Text)
-    → (old new : Option (List ℕ)) → (tells : List ℕ → Type 0) → ℕ → Type 0
-Runs told Stands words old new tells code =
-    ((job : Job) × IsJobFor words job × Ends (Answers told Stands job old new) tells code)
-    ⊎ ((fault : WordsFault) × (takes doslib_command words ≡ true → fault ≡ Memory)
+-- takes are refused only as IsRefusalFor says.
+abbrev pub Runs : (told : Text → Option (List ℕ)) → (looks : Option (Text → Option Looked))
+    → (Stands : (path bytes : List ℕ) → Type 0) → (words : List Text) → (old new : Option (List ℕ))
+    → (tells : List ℕ → Type 0) → ℕ → Type 0
+Runs told looks Stands words old new tells code =
+    ((job : Job) × IsJobFor words job × Ends (Answers told looks Stands job old new) tells code)
+    ⊎ ((fault : WordsFault) × (takes doslib_command words ≡ true → IsRefusalFor words fault)
     × EndsRefused fault old new tells code)

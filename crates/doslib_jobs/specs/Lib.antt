@@ -1,4 +1,6 @@
 pub mod Reading
+pub mod Program
+pub mod Matching
 pub mod Libraries
 pub mod LibraryLines
 pub mod Jobs

@@ -56,7 +56,3 @@ doubled_line path modules d =
 
 abbrev pub doubled_lines : (path : List ℕ) → (modules : List (List ℕ)) → List Doubled → List ℕ
 doubled_lines path modules doubled = flat_map (doubled_line path modules) doubled
-
--- the file at a path isn't written
-abbrev pub unwritten_line : (path : List ℕ) → List ℕ
-unwritten_line path = concat (codes "doslib: " ∷ path ∷ codes ": 40 Device\n" ∷ [])

@@ -1,5 +1,6 @@
--- Files that are read, and the lines of those that aren't.
-use Rattle.std.specs.Prelude.{ℕ, ◌==◌, if◌then◌else◌, List, [], ◌∷◌, length, codes}
+-- Files that are read, and the lines of those that aren't, and of those that aren't written.
+use Rattle.std.specs.Prelude.{ℕ, ◌==◌, if◌then◌else◌, List, [], ◌∷◌, length, max, codes, Ok, Err}
+use Rattle.std.specs.declared.result.Result.{Result}
 use Rattle.std.specs.List.{concat}
 use Rattle.doslink_files.specs.declared.fault.ReadFault.{ReadFault}
 use Rattle.doslink_files.specs.declared.fault.ReadFault.TheVariants as read
@@ -20,6 +21,20 @@ abbrev pub unread_line : (path : List ℕ) → ReadFault → List ℕ
 unread_line path fault =
     concat (codes "doslib: " ∷ path ∷ codes ": 1 Device: " ∷ unread_text fault ∷ codes "\n" ∷ [])
 
+-- that of one that can't be written
+abbrev pub unwritten_line : (path : List ℕ) → List ℕ
+unwritten_line path = concat (codes "doslib: " ∷ path ∷ codes ": 40 Device\n" ∷ [])
+
 -- the status of a file by the lines of its faults: 0 where there are none, and else 1
 abbrev pub faults_status : (lines : List ℕ) → ℕ
 faults_status lines = if length lines == 0 then 0 else 1
+
+-- that of one that was read, or isn't: 0, 1 where it is at fault, and 3 where it isn't read
+abbrev pub file_status : Result (List ℕ) ReadFault → (faults : List ℕ) → ℕ
+file_status (Ok bytes) faults = faults_status faults
+file_status (Err fault) faults = 3
+
+-- the greatest of some numbers, and 0 of none
+abbrev pub greatest : List ℕ → ℕ
+greatest [] = 0
+greatest (n ∷ ns) = max n (greatest ns)

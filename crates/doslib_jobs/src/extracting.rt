@@ -10,9 +10,9 @@ ghost use Rattle.doslib_words.specs.Words.{texts};
 
 use crate::changing::{Extracted, Refused, all_extracted};
 use crate::fault::Stopped;
-use crate::library_lines::push_unwritten;
 use crate::making::refused;
 use crate::outcome::{FAILED, Outcome};
+use crate::reading::push_unwritten;
 use crate::taking::{Taken, modules_of, take_files};
 use doslink_files::put_file;
 use omf_files::World;

@@ -12,8 +12,10 @@ use crate::changing::Change;
 use crate::extracting::extract;
 use crate::fault::Stopped;
 use crate::making::{change_library, make_library};
+use crate::matching::{Search, tell_matches};
 use crate::naming::tell_names;
-use crate::outcome::{FAILED, Outcome};
+use crate::outcome::{FAILED, Outcome, WRONG_WORDS};
+use crate::program::{Asked, tell_program};
 use crate::telling::{Telling, tell_files};
 use command_line::WordsFault;
 use doslib_words::{Job, parse_words};
@@ -21,9 +23,6 @@ use omf_files::{BufferedSink, World};
 use omf_frame::{Sink, put_all};
 use std::alloc::{Allocator, Global};
 use std::io::Write;
-
-/// The exit status of wrong words.
-const WRONG_WORDS: u8 = 2;
 
 /// Does what the words after the program's name ask for, and hands out the exit status.
 pub fn run_words<W: World + Copy, O: Write + Drop, E: Sink>(
@@ -35,7 +34,7 @@ pub fn run_words<W: World + Copy, O: Write + Drop, E: Sink>(
 ) -> u8
     requires output { sink_failures output.old ≡ 0 }
     requires errors { E.failures errors.old < 2 ^ 64 - 1 }
-    ensures { Runs (W.bytes world) (StandsAt (W.blank world) (W.Puts world)) (texts words.now)
+    ensures { Runs (W.bytes world) (W.looks world) (StandsAt (W.blank world) (W.Puts world)) (texts words.now)
         (sink_bytes O.contents output.old) (sink_bytes O.contents output.new)
         (Tells E.written E.failures errors.old errors.new) result }
 {
@@ -77,7 +76,7 @@ pub fn run_job<W: World + Copy, O: Write + Drop, E: Sink, A: Allocator + Copy>(
 ) -> u8
     requires output { sink_failures output.old ≡ 0 }
     requires errors { E.failures errors.old < 2 ^ 64 - 1 }
-    ensures { Ends (Answers (W.bytes world) (StandsAt (W.blank world) (W.Puts world)) job.now
+    ensures { Ends (Answers (W.bytes world) (W.looks world) (StandsAt (W.blank world) (W.Puts world)) job.now
         (sink_bytes O.contents output.old) (sink_bytes O.contents output.new))
         (Tells E.written E.failures errors.old errors.new) result }
 {
@@ -93,12 +92,26 @@ fn answer_job<W: World + Copy, O: Write + Drop, A: Allocator + Copy>(
     output: &mut BufferedSink<O, A>,
 ) -> Result<Outcome<A>, Stopped>
     requires { sink_failures output.old ≡ 0 }
-    ensures { Answers (W.bytes world) (StandsAt (W.blank world) (W.Puts world)) job.now
+    ensures { Answers (W.bytes world) (W.looks world) (StandsAt (W.blank world) (W.Puts world)) job.now
         (sink_bytes O.contents output.old) (sink_bytes O.contents output.new) (outcome_said result) }
 {
     match job {
         Job::List { files } => tell_files(alloc, world, Telling::Members, files, output),
         Job::Show { files } => tell_files(alloc, world, Telling::Records, files, output),
+        Job::Program { file, image } => {
+            let asked = Asked {
+                path: file,
+                image: *image,
+            };
+            tell_program(alloc, world, asked, output)
+        }
+        Job::Match { program, files } => {
+            let search = Search { program, files };
+            tell_matches(alloc, world, search, output)
+        }
+        Job::Names { ignore_case, files } => {
+            tell_names(alloc, world, *ignore_case, files, output)
+        }
         Job::Make { library, files } => make_library(alloc, world, library, files),
         Job::Add { library, files } => {
             change_library(alloc, world, Change::Added, library, files)
@@ -108,9 +121,6 @@ fn answer_job<W: World + Copy, O: Write + Drop, A: Allocator + Copy>(
         }
         Job::Replace { library, files } => {
             change_library(alloc, world, Change::Replaced, library, files)
-        }
-        Job::Names { ignore_case, files } => {
-            tell_names(alloc, world, *ignore_case, files, output)
         }
         Job::Extract { library, members } => extract(alloc, world, library, members),
     }

@@ -2,14 +2,17 @@
 //! ends with.
 #![tactic(auto)]
 
+mod bytes;
 mod changing;
 mod extracting;
 mod fault;
 mod jobs;
 mod library_lines;
 mod making;
+mod matching;
 mod naming;
 mod outcome;
+mod program;
 mod reading;
 mod taking;
 mod telling;

@@ -179,18 +179,3 @@ pub(crate) fn push_doubled<'p, A: Allocator + Copy>(
     }
     Ok(())
 }
-
-/// Appends the line of a file that isn't written.
-pub(crate) fn push_unwritten<A: Allocator + Copy>(
-    lines: &mut Vec<u8, A>,
-    path: &str,
-) -> Result<(), AllocError>
-    ensures { OnOk result (lines.new.items ≡ lines.old.items ++ spec.unwritten_line path.now) }
-{
-    let pieces = [
-        Piece::Text("doslib: "),
-        Piece::Text(path),
-        Piece::Text(": 40 Device\n"),
-    ];
-    push_pieces(lines, pieces.as_slice())
-}

@@ -14,8 +14,9 @@ ghost use Rattle.doslib_words.specs.Words.{texts};
 
 use crate::changing::{Change, Refused, changed};
 use crate::fault::Stopped;
-use crate::library_lines::{push_doubled, push_librarian, push_refusal, push_unwritten};
+use crate::library_lines::{push_doubled, push_librarian, push_refusal};
 use crate::outcome::{AT_FAULT, FAILED, Outcome};
+use crate::reading::push_unwritten;
 use crate::taking::{Taken, take_files};
 use doslink_files::{ReadFault, put_file, read_file, stands_as_input};
 use omf_files::World;

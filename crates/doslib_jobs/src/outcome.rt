@@ -10,6 +10,9 @@ use std::alloc::{AllocError, Allocator};
 /// The exit status where a file is at fault.
 pub(crate) const AT_FAULT: u8 = 1;
 
+/// The exit status of wrong words.
+pub(crate) const WRONG_WORDS: u8 = 2;
+
 /// The exit status where a device or memory failed.
 pub(crate) const FAILED: u8 = 3;
 
@@ -18,7 +21,7 @@ pub(crate) const FAILED: u8 = 3;
 pub struct Outcome<A: Allocator> {
     /// A line for each fault.
     pub(crate) lines: Vec<u8, A>,
-    /// 0; 1 where a file is at fault, and 3 where one can't be read.
+    /// 0; 1 where a file is at fault, 2 where the words are wrong, and 3 where a file can't be read.
     pub(crate) status: u8,
 }
 

@@ -1,4 +1,4 @@
-//! The lines of files that aren't read.
+//! The lines of files that aren't read, and of those that aren't written.
 
 ghost use Rattle.std.specs.Prelude.{◌≡◌, ◌++◌, OnOk};
 ghost use Rattle.doslib_jobs.specs.Reading as spec;
@@ -37,6 +37,21 @@ pub(crate) fn push_unread<A: Allocator + Copy>(
         Piece::Text(": 1 Device: "),
         Piece::Text(unread_text(fault)),
         Piece::Text("\n"),
+    ];
+    push_pieces(lines, pieces.as_slice())
+}
+
+/// Appends the line of a file at a path that can't be written.
+pub(crate) fn push_unwritten<A: Allocator + Copy>(
+    lines: &mut Vec<u8, A>,
+    path: &str,
+) -> Result<(), AllocError>
+    ensures { OnOk result (lines.new.items ≡ lines.old.items ++ spec.unwritten_line path.now) }
+{
+    let pieces = [
+        Piece::Text("doslib: "),
+        Piece::Text(path),
+        Piece::Text(": 40 Device\n"),
     ];
     push_pieces(lines, pieces.as_slice())
 }

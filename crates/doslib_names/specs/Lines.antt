@@ -10,13 +10,14 @@ use Rattle.omf_place.specs.declared.names.Names.{Names as Choice}
 use Rattle.omf_search.specs.Said.{Wanted}
 use Rattle.omf_text.specs.Printing.{hexadecimal, name_byte, printed_name}
 use Rattle.doslib_text.specs.Faults.{place_behind}
+use Rattle.doslib_text.specs.Listing.{shown_name}
 use Rattle.doslib_names.specs.Names.{Doubled, Held, doubled, missing, records_of}
 
 -- a name behind what is said of it
 abbrev pub name_text : (word name : List ℕ) → List ℕ
 name_text word name = concat (word ∷ printed_name name ∷ codes ": " ∷ [])
 
--- what stands behind the path of a file: the name of a member of a library or an archive
+-- what stands behind the path of a file: the name that `list` prints of a member of a library or an archive
 abbrev pub member_text : FileKind → (name : List ℕ) → List ℕ
 member_text Object name = []
 member_text Library name = concat (codes "(" ∷ flat_map name_byte name ∷ codes ")" ∷ [])
@@ -24,7 +25,7 @@ member_text Archive name = concat (codes "(" ∷ flat_map name_byte name ∷ cod
 
 -- how a module is told
 abbrev pub module_text : Held → List ℕ
-module_text h = h.path ++ member_text h.kind h.member.name
+module_text h = h.path ++ member_text h.kind (shown_name h.member)
 
 -- how the one with this index is
 abbrev pub module_at : List Held → (index : ℕ) → List ℕ

@@ -9,6 +9,7 @@ ghost use Rattle.doslib_names.specs.inside.First.{doubled_said};
 
 use crate::doubled::Doubled;
 use crate::held::Held;
+use doslib_text::shown_name;
 use omf_library::{FileKind, module_frames, wanting_places};
 use omf_search::Wanted;
 use omf_text::{Piece, push_pieces};
@@ -26,7 +27,8 @@ fn push_name<'p, A: Allocator + Copy>(
     push_pieces(text, pieces.as_slice())
 }
 
-/// Appends how a module is told: the path of its file, and behind it the name of the member in a library or an archive.
+/// Appends how a module is told: the path of its file, and behind it the name of the member in a library or an archive,
+/// as `list` prints it.
 fn push_module<A: Allocator + Copy>(
     text: &mut Vec<u8, A>,
     held: &Held<'_>,
@@ -39,7 +41,7 @@ fn push_module<A: Allocator + Copy>(
             let pieces = [
                 Piece::Text(held.path),
                 Piece::Text("("),
-                Piece::PlainName(held.member.name),
+                Piece::PlainName(shown_name(&held.member)),
                 Piece::Text(")"),
             ];
             push_pieces(text, pieces.as_slice())

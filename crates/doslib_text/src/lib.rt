@@ -6,5 +6,5 @@ mod listing;
 mod parts;
 
 pub use fault::{push_faults, push_located};
-pub use listing::{push_list, push_member_line, push_title};
+pub use listing::{push_list, push_member_line, push_title, shown_name};
 pub use parts::{Whole, module_end};

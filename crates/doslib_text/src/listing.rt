@@ -56,7 +56,7 @@ fn header_name(bytes: &[u8]) -> &[u8]
 }
 
 /// The name that a member is printed with: its own, and that of its header record where it has none.
-fn shown_name<'a>(member: &Member<'a>) -> &'a [u8]
+pub fn shown_name<'a>(member: &Member<'a>) -> &'a [u8]
     ensures { result.now ≡ spec.shown_name (plain_member member.now) }
 {
     if member.name.is_empty() {

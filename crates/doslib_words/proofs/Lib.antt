@@ -1,1 +1,2 @@
+pub mod ProgramValues
 pub mod WordsValues

@@ -11,9 +11,12 @@ use Rattle.clap.proofs.OnLiterals.{clap_on_literals}
 use Rattle.command_line.proofs.Parses.{simple_from_free}
 use Rattle.command_line.proofs.Required.{enters_one, is_entered, required_given, wants_values}
 use Rattle.command_line.proofs.Taken.{is_settled_app, takes_where_no_fault}
+use Rattle.command_line.specs.declared.words_fault.WordsFault.{WordsFault}
+use Rattle.command_line.specs.declared.words_fault.WordsFault.TheVariants.{Help, Wrong, Memory}
 use Rattle.doslib_words.specs.declared.words.Job.{Job}
-use Rattle.doslib_words.specs.Words.{IsJobFor, IsJobOf, doslib_command}
-use Rattle.doslib_words.specs.inside.Words.{IsEntered}
+use Rattle.doslib_words.specs.Program.{HasWrongPlace}
+use Rattle.doslib_words.specs.Words.{IsJobFor, IsJobOf, IsRefusalFor, doslib_command}
+use Rattle.doslib_words.specs.inside.Words.{IsEntered, IsRefusalOf}
 
 -- ---- the values that a subcommand asks for
 
@@ -36,6 +39,25 @@ pub show_values : (name : Text) (rows : List Row) → IsEntered name rows → na
     → IsSome (first_of (codes "FILES") rows)
 unfolding IsEntered clap_on_literals
 show_values name rows entered is =
+    one_there (is_some (first_of (codes "FILES") rows)) (subst (λ n. IsEntered n rows) is entered)
+
+pub program_values : (name : Text) (rows : List Row) → IsEntered name rows → name ≡ codes "program"
+    → IsSome (first_of (codes "FILE") rows)
+unfolding IsEntered clap_on_literals
+program_values name rows entered is =
+    one_there (is_some (first_of (codes "FILE") rows)) (subst (λ n. IsEntered n rows) is entered)
+
+pub match_values : (name : Text) (rows : List Row) → IsEntered name rows → name ≡ codes "match"
+    → IsSome (first_of (codes "PROGRAM") rows) × IsSome (first_of (codes "FILES") rows)
+unfolding IsEntered clap_on_literals
+match_values name rows entered is =
+    two_there (is_some (first_of (codes "PROGRAM") rows)) (is_some (first_of (codes "FILES") rows))
+    (subst (λ n. IsEntered n rows) is entered)
+
+pub names_values : (name : Text) (rows : List Row) → IsEntered name rows → name ≡ codes "names"
+    → IsSome (first_of (codes "FILES") rows)
+unfolding IsEntered clap_on_literals
+names_values name rows entered is =
     one_there (is_some (first_of (codes "FILES") rows)) (subst (λ n. IsEntered n rows) is entered)
 
 pub make_values : (name : Text) (rows : List Row) → IsEntered name rows → name ≡ codes "make"
@@ -73,31 +95,27 @@ extract_values name rows entered is =
     two_there (is_some (first_of (codes "LIB") rows)) (is_some (first_of (codes "MEMBERS") rows))
     (subst (λ n. IsEntered n rows) is entered)
 
-pub names_values : (name : Text) (rows : List Row) → IsEntered name rows → name ≡ codes "names"
-    → IsSome (first_of (codes "FILES") rows)
-unfolding IsEntered clap_on_literals
-names_values name rows entered is =
-    one_there (is_some (first_of (codes "FILES") rows)) (subst (λ n. IsEntered n rows) is entered)
-
 differs : (x name : Text) → (name ≡ x → ⊥) → bytes_eq x name ≡ false
 differs x name other = false_from_ne_true _ (λ e. other (sym ((bytes_eq-Decides x name).0 e)))
 
 pub one_of_all : (name : Text) (rows : List Row) → IsEntered name rows → (name ≡ codes "list" → ⊥)
-    → (name ≡ codes "show" → ⊥) → (name ≡ codes "make" → ⊥) → (name ≡ codes "add" → ⊥)
-    → (name ≡ codes "delete" → ⊥) → (name ≡ codes "replace" → ⊥) → (name ≡ codes "extract" → ⊥)
-    → (name ≡ codes "names" → ⊥) → ⊥
+    → (name ≡ codes "show" → ⊥) → (name ≡ codes "program" → ⊥) → (name ≡ codes "match" → ⊥)
+    → (name ≡ codes "names" → ⊥) → (name ≡ codes "make" → ⊥) → (name ≡ codes "add" → ⊥)
+    → (name ≡ codes "delete" → ⊥) → (name ≡ codes "replace" → ⊥) → (name ≡ codes "extract" → ⊥) → ⊥
 unfolding IsEntered
-one_of_all name rows entered list show make add delete replace extract names =
+one_of_all name rows entered list show program matching names make add delete replace extract =
     let none : false ≡ true =
     rw (
       differs (codes "list") name list,
       differs (codes "show") name show,
+      differs (codes "program") name program,
+      differs (codes "match") name matching,
+      differs (codes "names") name names,
       differs (codes "make") name make,
       differs (codes "add") name add,
       differs (codes "delete") name delete,
       differs (codes "replace") name replace,
       differs (codes "extract") name extract,
-      differs (codes "names") name names,
     ) at entered in
     absurd (true≢false (sym none))
 
@@ -143,3 +161,18 @@ job_for words name rows job e met fits = (
   takes_where_no_fault doslib_command words doslib_is_simple doslib_is_settled e,
   subst (λ o. IsSomeAnd o (λ p. IsJobOf p.0 p.1 job)) (sym met) fits,
 )
+
+-- ---- refusals
+
+pub refusal_for : (words : List Text) (name : Text) (rows : List Row) (fault : WordsFault)
+    → subcommand_of doslib_command words ≡ Some (name, rows) → IsRefusalOf name rows fault
+    → IsRefusalFor words fault
+unfolding IsRefusalFor
+refusal_for words name rows Memory met fits = tt
+refusal_for words name rows (Wrong text) met fits =
+    subst (λ o. IsSomeAnd o (λ p. (p.0 ≡ codes "program") × HasWrongPlace p.1)) (sym met) fits
+refusal_for words name rows (Help text) met fits = fits
+
+pub memory_refuses : (words : List Text) → IsRefusalFor words Memory
+unfolding IsRefusalFor
+memory_refuses words = tt

@@ -1,3 +1,5 @@
 pub mod Libraries
+pub mod Matching
+pub mod Program
 pub mod Words
 pub mod inside

@@ -2,7 +2,11 @@
 #![tactic(auto)]
 
 mod libraries;
+mod matching;
 mod names;
+mod program;
+mod values;
 mod words;
 
+pub use program::Image;
 pub use words::{Job, parse_words};

@@ -6,7 +6,7 @@ ghost use Rattle.command_line.specs.Rules.{files_rule};
 ghost use Rattle.doslib_words.specs.Libraries as spec;
 ghost use Rattle.doslib_words.specs.Words.{IsJobOf};
 
-use crate::libraries::values_of;
+use crate::values::values_of;
 use crate::words::{Job, STATUSES};
 use clap::{Arg, ArgMatches, Command};
 use command_line::{WordsFault, case_flag, with_arg};

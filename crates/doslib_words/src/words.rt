@@ -6,11 +6,14 @@ ghost use Rattle.clap.specs.declared.Command.{out-Command as fields_of};
 ghost use Rattle.command_line.specs.Rules.{files_rule};
 ghost use Rattle.doslib_words.specs.Libraries as libraries;
 ghost use Rattle.doslib_words.specs.Words as spec;
-ghost use Rattle.doslib_words.specs.Words.{IsJobFor, IsJobOf, texts};
-ghost use Rattle.doslib_words.specs.inside.Words.{IsEntered};
+ghost use Rattle.doslib_words.specs.Words.{IsJobFor, IsJobOf, IsRefusalFor, texts};
+ghost use Rattle.doslib_words.specs.inside.Words.{IsEntered, IsRefusalOf};
 
-use crate::libraries::{library_command, members_arg, needed, values_of};
+use crate::libraries::{library_command, members_arg};
+use crate::matching::{match_command, match_job};
 use crate::names::{names_command, names_job};
+use crate::program::{Image, program_command, program_job};
+use crate::values::{needed, values_of};
 use clap::builder::ValueRange;
 use clap::{Arg, ArgMatches, Command};
 use command_line::{VERSION, WordsFault, refusal, with_arg};
@@ -31,6 +34,27 @@ pub enum Job<'a> {
     },
     /// Show the records of files.
     Show {
+        /// The paths of the files, in their order.
+        files: Vec<&'a str>,
+    },
+    /// Tell what a program's file says, and write its image where that is asked for.
+    Program {
+        /// The path of the program.
+        file: &'a str,
+        /// The image that is written, where one is asked for.
+        image: Option<Image<'a>>,
+    },
+    /// Tell which modules of files stand in a program.
+    Match {
+        /// The path of the program.
+        program: &'a str,
+        /// The paths of the files, in their order.
+        files: Vec<&'a str>,
+    },
+    /// List the names that modules of files want and none defines, and those that two define.
+    Names {
+        /// Whether names agree without regard to case.
+        ignore_case: bool,
         /// The paths of the files, in their order.
         files: Vec<&'a str>,
     },
@@ -62,13 +86,6 @@ pub enum Job<'a> {
         /// The paths of the files, in their order.
         files: Vec<&'a str>,
     },
-    /// List the names that modules of files want and none defines, and those that two define.
-    Names {
-        /// Whether names agree without regard to case.
-        ignore_case: bool,
-        /// The paths of the files, in their order.
-        files: Vec<&'a str>,
-    },
     /// Write members of a library to files of their own.
     Extract {
         /// The path of the library, or of another file.
@@ -79,7 +96,7 @@ pub enum Job<'a> {
 }
 
 /// The files that are told of, one or more.
-fn files<'a>(alloc: Global) -> Arg<'a>
+pub(crate) fn files<'a>(alloc: Global) -> Arg<'a>
     ensures rule { rule_of result ≡ files_rule }
     ensures local { result.global ≡ false }
 {
@@ -122,7 +139,9 @@ fn bare_command<'a>(alloc: Global) -> Result<Command<'a>, AllocError>
     ensures local { IfOk result (λ c. (fields_of c).has_globals ≡ false) }
 {
     Command::new(alloc, "doslib")
-        .about("Tells what object modules, libraries and archives hold")
+        .about(
+            "Tells what object modules, libraries, archives and programs hold, and makes libraries",
+        )
         .after_help(STATUSES)
         .version(VERSION)
         .no_binary_name(true)
@@ -147,8 +166,10 @@ fn doslib_command<'a>(alloc: Global) -> Result<Command<'a>, AllocError>
         "Shows each record of files, with names in place of indexes",
     );
     let command = with_command(command, show);
-    let command = with_changes(alloc, command);
-    with_command(command, names_command(alloc, files(alloc)))
+    let command = with_command(command, program_command(alloc));
+    let command = with_command(command, match_command(alloc));
+    let command = with_command(command, names_command(alloc, files(alloc)));
+    with_changes(alloc, command)
 }
 
 /// The command with the subcommands that make and change libraries.
@@ -202,7 +223,7 @@ fn with_changes<'a>(
 fn job_of<'a>(alloc: Global, name: &str, values: &ArgMatches<'a>) -> Result<Job<'a>, WordsFault>
     requires { IsEntered name.now (rows_of (found_of values.now)) }
     ensures ok { IfOk result (IsJobOf name.now (rows_of (found_of values.now))) }
-    ensures err { IfErr result (λ e. e ≡ WordsFault.Memory) }
+    ensures err { IfErr result (IsRefusalOf name.now (rows_of (found_of values.now))) }
 {
     match name {
         "list" => Ok(Job::List {
@@ -211,6 +232,9 @@ fn job_of<'a>(alloc: Global, name: &str, values: &ArgMatches<'a>) -> Result<Job<
         "show" => Ok(Job::Show {
             files: values_of(alloc, values, "FILES")?,
         }),
+        "program" => program_job(alloc, values),
+        "match" => match_job(alloc, values),
+        "names" => names_job(alloc, values),
         "make" => Ok(Job::Make {
             library: needed(values, "LIB"),
             files: values_of(alloc, values, "FILES")?,
@@ -231,17 +255,16 @@ fn job_of<'a>(alloc: Global, name: &str, values: &ArgMatches<'a>) -> Result<Job<
             library: needed(values, "LIB"),
             members: values_of(alloc, values, "MEMBERS")?,
         }),
-        "names" => names_job(alloc, values),
         _ => unreachable!(),
     }
 }
 
-/// The job that the words after the program's name ask for. Words that the command takes are refused for want of memory
-/// alone.
+/// The job that the words after the program's name ask for. Words that the command takes are refused for nothing but a
+/// paragraph that isn't exactly four hexadecimal digits or is that of no image, or want of memory.
 pub fn parse_words<'a>(alloc: Global, words: &'a [&'a str]) -> Result<Job<'a>, WordsFault>
     ensures job { IfOk result (IsJobFor (texts words.entry.now)) }
     ensures refused { takes spec.doslib_command (texts words.entry.now) ≡ true
-        → IfErr result (λ e. e ≡ WordsFault.Memory) }
+        → IfErr result (IsRefusalFor (texts words.entry.now)) }
     // What the command takes, and its matches, are those that the parser promises of simple commands.
     ensures simple { is_simple spec.doslib_command ≡ true }
 {

@@ -23,11 +23,11 @@ use Rattle.doslib_jobs.specs.declared.changing.Refused.{Refused}
 use Rattle.doslib_jobs.specs.declared.changing.Refused.TheVariants as refused
 use Rattle.doslib_jobs.specs.declared.outcome.Outcome.{Outcome}
 use Rattle.doslib_jobs.specs.declared.taking.Taken.{Taken}
-use Rattle.doslib_jobs.specs.Jobs.{Does, IsToldOf, Ran, Takes, file_status}
+use Rattle.doslib_jobs.specs.Jobs.{Does, IsToldOf, Ran, Takes}
 use Rattle.doslib_jobs.specs.Libraries.{NoMember, NotLibrary, Refusal, Source, added, all_deleted, all_modules}
 use Rattle.doslib_jobs.specs.Libraries.{all_replaced, in_library, is_library, made, modules_in, source_of}
 use Rattle.doslib_jobs.specs.LibraryLines.{refusal_line}
-use Rattle.doslib_jobs.specs.Reading.{faults_status}
+use Rattle.doslib_jobs.specs.Reading.{faults_status, file_status}
 
 -- ---- files
 

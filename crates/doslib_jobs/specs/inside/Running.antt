@@ -9,7 +9,8 @@ use Rattle.doslib_jobs.specs.declared.fault.Stopped.{Stopped}
 use Rattle.doslib_jobs.specs.declared.outcome.Outcome.{Outcome}
 use Rattle.doslib_jobs.specs.declared.telling.Telling.{Telling}
 use Rattle.doslib_jobs.specs.declared.telling.Telling.TheVariants.{Members, Records}
-use Rattle.doslib_jobs.specs.Jobs.{IsToldOf, Lists, Shows, file_status}
+use Rattle.doslib_jobs.specs.Jobs.{IsToldOf, Lists, Shows}
+use Rattle.doslib_jobs.specs.Reading.{file_status}
 
 -- what a word tells of a file
 abbrev pub tells_of : Telling → (path file text faults : List ℕ) → Type 0
@@ -27,7 +28,11 @@ pub record Adds {A : Type 0} (tells : List ℕ → List ℕ → List ℕ → Lis
   pub lines : after.lines.items ≡ before.lines.items ++ faults
   pub greatest_is : after.status ≡ max before.status (file_status bytes faults)
 
--- what a job came to: the lines of its faults and its status, or why it stopped
+-- what a job came to: the lines of its faults and its status
+abbrev pub said : {A : Type 0} → Outcome A → List ℕ × ℕ
+said o = (o.lines.items, o.status)
+
+-- the same, or why it stopped
 abbrev pub outcome_said : {A : Type 0} → Result (Outcome A) Stopped → Result (List ℕ × ℕ) Stopped
-outcome_said (Ok o) = Ok (o.lines.items, o.status)
+outcome_said (Ok o) = Ok (said o)
 outcome_said (Err why) = Err why

@@ -1,6 +1,6 @@
 use Rattle.std.proofs.Common.{◌<◌, ◌∙◌, ◌++◌, ap, inl, inr, length, max, rules}
 use Rattle.doslink_files.specs.Written.{StandsAt}
-use Rattle.doslib_jobs.specs.LibraryLines.{unwritten_line}
+use Rattle.doslib_jobs.specs.Reading.{unwritten_line}
 use Rattle.doslib_jobs.proofs.Libraries.{none-put, put-all, put-more, put-up-to}
 use Rattle.doslib_jobs.proofs.extracting.put_members.Goals as goal
 

@@ -6,5 +6,7 @@ unfolding doslib_command
 returns c =
     let one = c.with_command-command.ensures.app _ _ c.bare_command.ensures.app c.files_command-list.ensures.app in
     let two = c.with_command-command-2.ensures.app _ _ one c.files_command-show.ensures.app in
-    let all = c.with_changes-command.ensures.app _ two in
-    c.with_command.ensures.app _ _ all c.names_command.ensures.app
+    let three = c.with_command-command-3.ensures.app _ _ two c.program_command.ensures.app in
+    let four = c.with_command-command-4.ensures.app _ _ three c.match_command.ensures.app in
+    let five = c.with_command-command-5.ensures.app _ _ four c.names_command.ensures.app in
+    c.with_changes.ensures.app _ five

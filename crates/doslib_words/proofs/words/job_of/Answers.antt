@@ -1,6 +1,7 @@
 use Rattle.clap.specs.Words.{found_of, rows_of}
 use Rattle.doslib_words.proofs.WordsValues.{add_values, delete_values, extract_values, list_values, make_values}
-use Rattle.doslib_words.proofs.WordsValues.{names_values, one_of_all, replace_values, show_values}
+use Rattle.doslib_words.proofs.WordsValues.{match_values, names_values, one_of_all, program_values, replace_values}
+use Rattle.doslib_words.proofs.WordsValues.{show_values}
 use Rattle.doslib_words.proofs.words.job_of.Goals as goal
 
 pub values_of-requires : goal.values_of-requires
@@ -9,6 +10,21 @@ values_of-requires c = list_values c.args.name.now (rows_of (found_of c.args.val
 pub values_of-requires-in-show : goal.values_of-requires-in-show
 values_of-requires-in-show c =
     show_values c.args.name.now (rows_of (found_of c.args.values.now)) c.requires c.in-show.is
+
+pub program_job-requires : goal.program_job-requires
+program_job-requires c =
+    program_values c.args.name.now (rows_of (found_of c.args.values.now)) c.requires c.in-program.is
+
+pub match_job-requires-clause-program : goal.match_job-requires-clause-program
+match_job-requires-clause-program c =
+    (match_values c.args.name.now (rows_of (found_of c.args.values.now)) c.requires c.in-match.is).0
+
+pub match_job-requires-clause-files : goal.match_job-requires-clause-files
+match_job-requires-clause-files c =
+    (match_values c.args.name.now (rows_of (found_of c.args.values.now)) c.requires c.in-match.is).1
+
+pub names_job-requires : goal.names_job-requires
+names_job-requires c = names_values c.args.name.now (rows_of (found_of c.args.values.now)) c.requires c.in-names.is
 
 pub needed-requires : goal.needed-requires
 needed-requires c =
@@ -50,11 +66,9 @@ pub values_of-requires-in-extract : goal.values_of-requires-in-extract
 values_of-requires-in-extract c =
     (extract_values c.args.name.now (rows_of (found_of c.args.values.now)) c.requires c.in-extract.is).1
 
-pub names_job-requires : goal.names_job-requires
-names_job-requires c = names_values c.args.name.now (rows_of (found_of c.args.values.now)) c.requires c.in-names.is
-
 pub unreachable-requires : goal.unreachable-requires
 unreachable-requires c =
     one_of_all c.args.name.now (rows_of (found_of c.args.values.now)) c.requires c.in_default.not-list
-    c.in_default.not-show c.in_default.not-make c.in_default.not-add c.in_default.not-delete
-    c.in_default.not-replace c.in_default.not-extract c.in_default.not-names
+    c.in_default.not-show c.in_default.not-program c.in_default.not-match c.in_default.not-names
+    c.in_default.not-make c.in_default.not-add c.in_default.not-delete c.in_default.not-replace
+    c.in_default.not-extract

@@ -2,7 +2,7 @@ use Rattle.std.proofs.Common.{◌∙◌, ap, option_map, sym}
 use Rattle.clap.specs.Words.{found_of}
 use Rattle.clap.proofs.CallerLemmas.{some_of_text}
 use Rattle.clap.proofs.WalkLemmas.{first_value-rows}
-use Rattle.doslib_words.proofs.libraries.needed.Goals as goal
+use Rattle.doslib_words.proofs.values.needed.Goals as goal
 
 pub unwrap-requires : goal.unwrap-requires
 unwrap-requires c =

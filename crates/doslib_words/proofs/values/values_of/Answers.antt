@@ -2,7 +2,7 @@ use Rattle.std.proofs.Common.{rules, ◌≡◌, ◌∙◌, Some, ap, sym}
 use Rattle.clap.specs.Words.{found_of, rows_of}
 use Rattle.command_line.proofs.Values.{all_there, one_or_more, values_given}
 use Rattle.command_line.specs.Values.{texts}
-use Rattle.doslib_words.proofs.libraries.values_of.Goals as goal
+use Rattle.doslib_words.proofs.values.values_of.Goals as goal
 
 pub unwrap-list-requires : goal.unwrap-list-requires
 unwrap-list-requires c =

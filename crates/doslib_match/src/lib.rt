@@ -1,0 +1,7 @@
+//! What `doslib match` prints of files: which segments of their modules stand in a program, and where.
+#![tactic(auto)]
+
+mod label;
+mod matching;
+
+pub use matching::{Told, match_file};
