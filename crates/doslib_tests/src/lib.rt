@@ -16,4 +16,6 @@ mod program;
 #[cfg(test)]
 mod runs;
 #[cfg(test)]
+mod searching;
+#[cfg(test)]
 mod show;

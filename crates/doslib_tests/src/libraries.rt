@@ -44,6 +44,26 @@ pad 16
 pad 16
 F1 00 00";
 
+/// A library of a module that wants `x`, to which the librarian gave a name of no bytes.
+const UNNAMED: &str = "\
+lib 16
+80 05 59 2E 61 73 6D
+88 00 A3 00
+8C 01 78 00
+8A 00
+pad 16
+F1 00 00";
+
+/// An archive of the second module, with a name of no bytes.
+const BLANK: &str = "\
+text !<arch>
+ar  31
+80 03 64 5C 7A
+8C 01 79 00
+90 00 01 01 7A 00 00 00
+8A 00
+raw 0A";
+
 /// What the output of a run is, and what `list` tells of the file that it wrote.
 #[derive(Drop)]
 struct Done {
@@ -110,7 +130,9 @@ fn run(alloc: Global, room: usize, table: &str) -> Result<(), Fail> {
     let other = file_of(alloc, OTHER)?;
     let library = file_of(alloc, LIBRARY)?;
     let headless = file_of(alloc, "8A 00")?;
-    let files: [(&str, &[u8]); 8] = [
+    let unnamed = file_of(alloc, UNNAMED)?;
+    let blank = file_of(alloc, BLANK)?;
+    let files: [(&str, &[u8]); 10] = [
         ("Y", &y),
         ("Z", &z),
         ("OTHER", &other),
@@ -119,6 +141,8 @@ fn run(alloc: Global, room: usize, table: &str) -> Result<(), Fail> {
         ("CUT", b"\x80\x03"),
         ("NOHEAD", &headless),
         ("ARCHIVE", b"!<arch>\n"),
+        ("UNNAMED", &unnamed),
+        ("BLANK", &blank),
     ];
     for row in table.split("\n\n") {
         let (line, wanted) = row.split_once("\n= ").unwrap_or((row, ""));
@@ -321,6 +345,16 @@ missing \"y\": Z wants it in the record at 00000008
 names LIB Y
 = status 1
 defined twice \"y\": LIB(Y.asm) and Y define it
+
+names UNNAMED
+= status 1
+missing \"x\": UNNAMED(Y.asm) wants it in the record at 00000021
+
+names BLANK Z
+= status 1
+missing \"y\": BLANK(d\\x5Cz) wants it in the record at 0000004C
+missing \"y\": Z wants it in the record at 00000008
+defined twice \"z\": BLANK(d\\x5Cz) and Z define it
 
 names LIB CUT NONE
 = status 3

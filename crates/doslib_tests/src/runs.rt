@@ -1,5 +1,6 @@
 //! Runs over a world in memory. Blank lines separate the rows of a table: a row is the words of a run, and behind `= `
-//! its status, what is written to the standard output, and the lines of the standard error, each behind `! `.
+//! its status, what is written to the standard output, the lines of the standard error, each behind `! `, and behind
+//! `OUT` the bytes of the file of that name, where one is written.
 
 use desk::{Count, Desk, Page, Pen};
 use doslib_jobs::{out_of_memory, run_job, run_words};
@@ -24,11 +25,37 @@ const LIBRARY: [u8; 51] = [
     0, 0, 0, 0, 0, 0, 0, 0, 0, 0, 0xF1, 0x00, 0x00,
 ];
 
-const FILES: [(&str, &[u8]); 4] = [
+/// A program of five bytes, the second and third of which are a relocated word, and a byte behind it.
+const PROGRAM: [u8; 38] = [
+    0x4D, 0x5A, 0x25, 0x00, 0x01, 0x00, 0x01, 0x00, 0x02, 0x00, 0x02, 0x00, 0xFF, 0xFF, 0x00, 0x00,
+    0x00, 0x00, 0x00, 0x00, 0x00, 0x00, 0x00, 0x00, 0x1C, 0x00, 0x00, 0x00, 0x01, 0x00, 0x00, 0x00,
+    0xB8, 0x00, 0x10, 0x8E, 0xD8, 0x1A,
+];
+
+/// A program of which a segment of the module behind it has the bytes from 3 to 15.
+const LINKED: [u8; 48] = [
+    0x4D, 0x5A, 0x30, 0x00, 0x01, 0x00, 0x00, 0x00, 0x02, 0x00, 0x00, 0x00, 0xFF, 0xFF, 0x00, 0x00,
+    0x00, 0x00, 0x00, 0x00, 0x00, 0x00, 0x00, 0x00, 0x1C, 0x00, 0x00, 0x00, 0x00, 0x00, 0x00, 0x00,
+    0x00, 0x11, 0x22, 0xB8, 0x34, 0x12, 0xA1, 0x00, 0x00, 0x05, 0x06, 0x07, 0x08, 0x09, 0x0A, 0x33,
+];
+
+const LINKED_MODULE: [u8; 65] = [
+    0x80, 0x03, 0x00, 0x01, 0x41, 0x00, 0x96, 0x07, 0x00, 0x00, 0x04, 0x43, 0x4F, 0x44, 0x45, 0x00,
+    0x98, 0x07, 0x00, 0x28, 0x0C, 0x00, 0x02, 0x02, 0x01, 0x00, 0x8C, 0x04, 0x00, 0x01, 0x78, 0x00,
+    0x00, 0xA0, 0x10, 0x00, 0x01, 0x00, 0x00, 0xB8, 0x00, 0x00, 0xA1, 0x00, 0x00, 0x05, 0x06, 0x07,
+    0x08, 0x09, 0x0A, 0x00, 0x9C, 0x05, 0x00, 0xC4, 0x01, 0x56, 0x01, 0x00, 0x8A, 0x02, 0x00, 0x00,
+    0x00,
+];
+
+const FILES: [(&str, &[u8]); 8] = [
     ("A", &MODULE),
     ("LIB", &LIBRARY),
     ("CUT", b"\x80\x03"),
     ("WRONG", b"\x8A\x02\x00\x40\x00"),
+    ("P", &PROGRAM),
+    ("SHORT", b"MZ"),
+    ("LINKED", &LINKED),
+    ("M", &LINKED_MODULE),
 ];
 
 /// The pages of a world, and how many of its files are open.
@@ -36,29 +63,32 @@ const FILES: [(&str, &[u8]); 4] = [
 struct Pages<'a> {
     output: Page<'a>,
     errors: Page<'a>,
+    written: Page<'a>,
     other: Page<'a>,
     count: Count,
 }
 
-/// Blank pages, of which that of the standard output takes so many bytes.
-fn blank_pages<'a>(alloc: Global, room: usize) -> Pages<'a> {
+/// Blank pages, of which that of the standard output takes so many bytes, and one stands at another path than `OUT`: at
+/// any, where this is empty.
+fn blank_pages<'a>(alloc: Global, room: usize, other: &'a str) -> Pages<'a> {
     Pages {
         output: Page::blank(alloc, "", room),
         errors: Page::blank(alloc, "", 20_000),
-        other: Page::blank(alloc, "", 20_000),
+        written: Page::blank(alloc, "OUT", 20_000),
+        other: Page::blank(alloc, other, 20_000),
         count: Count::new(),
     }
 }
 
-/// A world of the files and these pages, with a folder and a file that can't be opened.
+/// A world of the files and these pages, with a folder, a file that can't be opened, and another path of the program.
 fn desk_of<'p>(pages: &'p Pages<'p>) -> Desk<'static, 'p> {
     Desk {
         files: &FILES,
         folders: &["DIR"],
         devices: &[],
         locked: &["LOCKED"],
-        links: &[],
-        out: &pages.other,
+        links: &[("LINK", "P")],
+        out: &pages.written,
         map: &pages.other,
         opened: &pages.other,
         count: &pages.count,
@@ -90,6 +120,14 @@ fn done(alloc: Global, status: u8, pages: &Pages<'_>) -> Result<String, Fail> {
     for line in str::from_utf8(&pages.errors.bytes(alloc)?)?.lines() {
         write!(text, "! {line}\n")?;
     }
+    let written = pages.written.bytes(alloc)?;
+    if !written.is_empty() {
+        text.push_str("OUT")?;
+        for byte in &written {
+            write!(text, " {byte:02X}")?;
+        }
+        text.push('\n')?;
+    }
     Ok(text)
 }
 
@@ -107,7 +145,7 @@ fn run(alloc: Global, room: usize, table: &str) -> Result<(), Fail> {
     for row in table.split("\n\n") {
         let (line, wanted) = row.split_once("\n= ").unwrap_or((row, ""));
         let words = words_of(alloc, line)?;
-        let pages = blank_pages(alloc, room);
+        let pages = blank_pages(alloc, room, "OTHER");
         let status = words_status(alloc, &words, &pages);
         let text = done(alloc, status, &pages)?;
         same(text.strip_suffix("\n").unwrap_or("no line end"), wanted)?;
@@ -179,6 +217,151 @@ module \"WRONG\" members 1
     )
 }
 
+/// What `program` prints of the program.
+const TOLD: &str = "\
+program \"P\"
+  00 5A4D signature
+  02 0025 bytes in last page
+  04 0001 pages
+  06 0001 relocations
+  08 0002 header paragraphs
+  0A 0002 minimum allocation
+  0C FFFF maximum allocation
+  0E 0000 initial SS
+  10 0000 initial SP
+  12 0000 checksum
+  14 0000 initial IP
+  16 0000 initial CS
+  18 001C relocation table offset
+  1A 0000 overlay
+       32 bytes of the header
+        5 bytes of the image
+        1 bytes behind the image
+       32 bytes of memory at least
+  0000:0001 -> 00000001 1000
+";
+
+/// The words of runs of `program`, with their statuses, and what is told behind what is printed of it.
+const TOLD_PROGRAMS: [(&str, u8, &str); 5] = [
+    ("program P", 0, ""),
+    ("program P --image OUT", 0, "OUT B8 00 10 8E D8\n"),
+    ("program --at 1234 --image OUT P", 0, "OUT B8 34 22 8E D8\n"),
+    (
+        "program P --image OUT --at ffff",
+        1,
+        "! doslib: P: 39 DoesNotFit\n",
+    ),
+    (
+        "program P --image NONE --at 1000",
+        3,
+        "! doslib: NONE: 40 Device\n",
+    ),
+];
+
+#[test]
+fn programs(rt: HostRuntime) -> Result<(), Fail> {
+    let alloc = rt.alloc();
+    for (line, status, rest) in TOLD_PROGRAMS {
+        let words = words_of(alloc, line)?;
+        let pages = blank_pages(alloc, 20_000, "OTHER");
+        let ended = words_status(alloc, &words, &pages);
+        let wanted = format!(in alloc; "status {status}\n{TOLD}{rest}")?;
+        same(&done(alloc, ended, &pages)?, &wanted)?;
+    }
+    run(
+        alloc,
+        20_000,
+        "\
+program A --image OUT
+= status 1
+! doslib: A: 35 Magic
+
+program SHORT
+= status 1
+! doslib: SHORT: 37 Truncated
+
+program NONE --image OUT
+= status 3
+! doslib: NONE: 1 Device: no such file
+
+program P --image P
+= status 2
+! doslib: P: it is read and would be written
+
+program P --image LINK --at 1000
+= status 2
+! doslib: LINK: it is read and would be written
+
+program LINK --image P
+= status 2
+! doslib: P: it is read and would be written
+
+program A --image A
+= status 2
+! doslib: A: it is read and would be written
+
+program A --image P
+= status 1
+! doslib: A: 35 Magic",
+    )?;
+    // no image is written where the output fails
+    run(
+        alloc,
+        7,
+        "\
+program P --image OUT
+= status 3
+program! doslib: output: 40 Device",
+    )
+}
+
+#[test]
+fn matches(rt: HostRuntime) -> Result<(), Fail> {
+    run(
+        rt.alloc(),
+        20_000,
+        "\
+match LINKED M
+= status 0
+module \"M\" \"A\"
+  00000003      12 \"CODE\" \"CODE\"
+    00000004 1234 external \"x\"
+left 00000000       3
+left 0000000F       1
+
+match LINKED A CUT NONE M
+= status 3
+module \"M\" \"A\"
+  00000003      12 \"CODE\" \"CODE\"
+    00000004 1234 external \"x\"
+left 00000000       3
+left 0000000F       1
+! doslib: A: 11 SegmentIndex at place 6
+! doslib: CUT: 44 Truncated at place 0
+! doslib: NONE: 1 Device: no such file
+
+match P M
+= status 0
+left 00000000       5
+
+match M LINKED
+= status 1
+! doslib: M: 35 Magic
+
+match NONE M
+= status 3
+! doslib: NONE: 1 Device: no such file",
+    )?;
+    run(
+        rt.alloc(),
+        8,
+        "\
+match LINKED M
+= status 3
+module \"! doslib: output: 40 Device",
+    )
+}
+
 #[test]
 fn failing_output(rt: HostRuntime) -> Result<(), Fail> {
     run(
@@ -192,7 +375,7 @@ module ! doslib: output: 40 Device",
 }
 
 /// Words that ask for help or the version, and wrong ones, each with how what the run did begins, and a part of it.
-const SAID: [(&str, &str, &str); 9] = [
+const SAID: [(&str, &str, &str); 18] = [
     ("help", "status 0\n", "Usage: doslib <COMMAND>\n"),
     ("--help", "status 0\n", "Usage: doslib <COMMAND>\n"),
     ("help list", "status 0\n", "Usage: doslib list <FILES>...\n"),
@@ -202,6 +385,15 @@ const SAID: [(&str, &str, &str); 9] = [
     ("list", "status 2\n! ", "<FILES>..."),
     ("lst A", "status 2\n! ", "'lst'"),
     ("list --none A", "status 2\n! ", "'--none'"),
+    ("program -h", "status 0\nTells what", "--image <OUT>"),
+    ("program", "status 2\n! ", "<FILE>"),
+    ("program P A", "status 2\n! ", "'A'"),
+    ("program P --at 1000", "status 2\n! ", "'1000'"),
+    ("program P --image OUT --at 100", "status 2\n! ", "'100'"),
+    ("program P --image OUT --at 100G", "status 2\n! ", "'100G'"),
+    ("match -h", "status 0\nTells which", "<PROGRAM> <FILES>..."),
+    ("match", "status 2\n! ", "<PROGRAM>"),
+    ("match P", "status 2\n! ", "<FILES>..."),
 ];
 
 #[test]
@@ -209,7 +401,7 @@ fn words_that_are_no_job(rt: HostRuntime) -> Result<(), Fail> {
     let alloc = rt.alloc();
     for (line, front, part) in SAID {
         let words = words_of(alloc, line)?;
-        let pages = blank_pages(alloc, 20_000);
+        let pages = blank_pages(alloc, 20_000, "OTHER");
         let status = words_status(alloc, &words, &pages);
         let text = done(alloc, status, &pages)?;
         if !text.starts_with(front) || !text.contains(part) {
@@ -228,7 +420,7 @@ fn refused<'a>(
     let Ok(job) = parse_words(alloc, words) else {
         return Ok(String::from_str(alloc, "no job")?);
     };
-    let pages = blank_pages(alloc, 20_000);
+    let pages = blank_pages(alloc, 20_000, "");
     let status = job_status(memory, &job, &pages);
     let text = done(alloc, status, &pages)?;
     match text.strip_suffix("\n") {
@@ -238,7 +430,7 @@ fn refused<'a>(
 }
 
 /// Words, and what a run of them does.
-const GROWTHS: [(&str, &str); 7] = [
+const GROWTHS: [(&str, &str); 9] = [
     (
         "list A NONE",
         "\
@@ -249,17 +441,34 @@ module \"A\" members 1
 ! doslib: NONE: 1 Device: no such file",
     ),
     (
+        "program A",
+        "\
+status 1
+! doslib: A: 35 Magic",
+    ),
+    (
+        "match LINKED M NONE",
+        "\
+status 3
+module \"M\" \"A\"
+  00000003      12 \"CODE\" \"CODE\"
+    00000004 1234 external \"x\"
+left 00000000       3
+left 0000000F       1
+! doslib: NONE: 1 Device: no such file",
+    ),
+    (
         "names A LIB",
         "\
 status 1
 defined twice \"y\": A and LIB(A) define it",
     ),
     (
-        "make OUT A A",
+        "make LIB A A",
         "\
 status 0
-! doslib: warning: OUT: \"A!\" is in \"A\" and in \"A\"
-! doslib: warning: OUT: \"y\" is in \"A\" and in \"A\"",
+! doslib: warning: LIB: \"A!\" is in \"A\" and in \"A\"
+! doslib: warning: LIB: \"y\" is in \"A\" and in \"A\"",
     ),
     ("replace LIB A", "status 0"),
     ("delete LIB a", "status 0"),
@@ -272,13 +481,19 @@ status 1
     ("extract LIB A a", "status 0"),
 ];
 
+/// Each growth refused in turn, a run of these words wants memory, or does what is wanted.
+fn refuse_growths(alloc: Global, line: &str, wanted: &str) -> Result<(), Fail> {
+    let words = words_of(alloc, line)?;
+    let (_, made_do) = refuse_each(alloc, wanted, |memory| refused(alloc, memory, &words))?;
+    same(&format!(in alloc; "{made_do} made do")?, "0 made do")
+}
+
 #[test]
 fn refused_growths(rt: HostRuntime) -> Result<(), Fail> {
     let alloc = rt.alloc();
     for (line, wanted) in GROWTHS {
-        let words = words_of(alloc, line)?;
-        let (_, made_do) = refuse_each(alloc, wanted, |memory| refused(alloc, memory, &words))?;
-        same(&format!(in alloc; "{made_do} made do")?, "0 made do")?;
+        refuse_growths(alloc, line, wanted)?;
     }
-    Ok(())
+    let wanted = format!(in alloc; "status 0\n{TOLD}OUT B8 34 22 8E D8")?;
+    refuse_growths(alloc, "program P --image OUT --at 1234", &wanted)
 }

@@ -1,6 +1,10 @@
 //! Object modules, read from their bytes.
 
 #[cfg(test)]
+mod built;
+#[cfg(test)]
+mod changed;
+#[cfg(test)]
 mod defaulted;
 #[cfg(test)]
 mod grouped;

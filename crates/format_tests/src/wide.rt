@@ -5,4 +5,6 @@ mod answers;
 #[cfg(test)]
 mod bodies;
 #[cfg(test)]
+mod data;
+#[cfg(test)]
 mod growths;

@@ -7,4 +7,6 @@ mod growths;
 #[cfg(test)]
 mod hashes;
 #[cfg(test)]
+mod limits;
+#[cfg(test)]
 mod told;

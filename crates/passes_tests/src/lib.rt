@@ -1,8 +1,8 @@
-//! What `doslink` does before a link: searching libraries, lowering, ordering, stacks and communal variables.
+//! What `doslink` does before a link: searching libraries, reading modules, ordering, stacks and communal variables.
 #![tactic(auto)]
 
 mod communal;
-mod lower;
 mod order;
+mod plain;
 mod search;
 mod stack;

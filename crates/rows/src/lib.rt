@@ -198,19 +198,23 @@ fn push_publics(text: &mut String, module: &Module) -> Result<(), AllocError> {
     Ok(())
 }
 
-/// Appends the segments, groups and publics of the module that bytes are, and whether there is more; or why it is none.
-pub fn push_module(alloc: Global, text: &mut String, bytes: &[u8]) -> Result<(), AllocError> {
-    let module = match read_input(alloc, bytes) {
-        Ok(module) => module,
-        Err(fault) => return write!(text, "{fault}"),
-    };
-    push_segments(text, &module)?;
-    push_groups(text, &module)?;
-    push_publics(text, &module)?;
+/// Appends the segments, groups and publics of a module, and whether there is more.
+pub fn push_read(text: &mut String, module: &Module) -> Result<(), AllocError> {
+    push_segments(text, module)?;
+    push_groups(text, module)?;
+    push_publics(text, module)?;
     if module.external_count() != 0 || module.data_record_count() != 0 || module.start().is_some() {
         text.push_str("and more")?;
     }
     Ok(())
+}
+
+/// Appends the same of the module that bytes are, or why they are none.
+pub fn push_module(alloc: Global, text: &mut String, bytes: &[u8]) -> Result<(), AllocError> {
+    match read_input(alloc, bytes) {
+        Ok(module) => push_read(text, &module),
+        Err(fault) => write!(text, "{fault}"),
+    }
 }
 
 /// How many bytes at the front are this one.

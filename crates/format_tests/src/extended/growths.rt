@@ -25,6 +25,6 @@ fn each_growth_is_refused(rt: HostRuntime) {
     assert_eq!(rt; wants(rt.alloc(), 0xB2, &[1, 0, 7, 0, 0, 0]), Some(1));
     assert_eq!(rt;
         wants(rt.alloc(), 0xA3, &[1, 0, 0, 0, 0, 3, 0, 0, 0, 0, 0, 1, 65]),
-        Some(0)
+        Some(1)
     );
 }

@@ -41,9 +41,7 @@ doslink -m A.EXE A.OBJ F.OBJ|2||doslink: A.EXE: it would be the program and its 
 doslink G.OBJ|0||doslink: warning: library \"NONE\" of G.OBJ was not found~
 doslink --keep-debug A.OBJ F.OBJ|0||
 doslink WIDE.OBJ|0||doslink: warning: 32-bit segments of WIDE.OBJ are linked as 16-bit ones~
-doslink AMISS.OBJ|1||\
-doslink: warning: 32-bit segments of AMISS.OBJ are linked as 16-bit ones~\
-doslink: AMISS.OBJ: 51 Body at record 13~
+doslink AMISS.OBJ|1||doslink: AMISS.OBJ: 6 Body at record 13 byte 0~
 doslink COMDAT.OBJ|1||doslink: COMDAT.OBJ: 5 Type at record 30 (C2 COMDAT)~
 doslink A.OBJ COMDATS.LIB|1||doslink: COMDATS.LIB(f.c): 5 Type at record 30 (C2 COMDAT)~
 doslink PATCHED.OBJ|1||doslink: PATCHED.OBJ: 5 Type at record 37 (B2 BAKPAT)~
@@ -111,7 +109,7 @@ doslink LSTART.OBJ|1||doslink: LSTART.OBJ: 27 Unresolved at record 24~
 doslink LFAULTY.OBJ|1||doslink: LFAULTY.OBJ: 11 SegmentIndex at record 46~
 doslink LOCAL.OBJ LCLASH.OBJ|1||doslink: link: 55 NearAndFar \"f\" in LCLASH.OBJ and LCLASH.OBJ~
 doslink LOUTSIDE.OBJ|1||doslink: LOUTSIDE.OBJ: 11 SegmentIndex at record 23~
-doslink LOUTSIDE.OBJ LCLASH.OBJ|1||doslink: link: 55 NearAndFar \"f\" in LCLASH.OBJ and LCLASH.OBJ~
+doslink LOUTSIDE.OBJ LCLASH.OBJ|1||doslink: LOUTSIDE.OBJ: 11 SegmentIndex at record 23~
 doslink LOCAL.OBJ LLONG.OBJ|1||doslink: link: 57 NearTooLong \"g\" in LLONG.OBJ~
 doslink LOCAL.OBJ LTABLE.OBJ|1||doslink: LTABLE.OBJ: 48 DataType at record 8~
 ";

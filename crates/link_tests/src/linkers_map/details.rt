@@ -51,6 +51,53 @@ const ODD: &str = "\
 98 28 00 00 02 03 01
 8A 00";
 
+/// The two modules as records of 32 bits say them, with the bit P of a segment, and with its lines.
+const TWO_OF_32_BITS: &str = "\
+80 07 68 65 6C 6C 6F 2E 63
+96 00 05 5F 54 45 58 54 04 43 4F 44 45 05 5F 44 41 54 41 04 44 41 54 41 06 44 47 52 4F 55 50
+99 29 20 00 00 00 02 03 01
+99 48 08 00 00 00 04 05 01
+9A 06 FF 02
+91 00 01 01 6D 03 00 00 00 00
+95 00 01 0C 00 00 00 00 00 0D 00 00 00 01 00
+8B 00
+--
+80 03 62 2E 63
+96 00 05 5F 54 45 58 54 04 43 4F 44 45
+98 69 10 00 02 03 01
+95 00 01 07 00 02 00 00 00
+8A 00";
+
+/// The odd ones, of which the first has a segment and the second none.
+const ODD_WITH_MORE: &str = "\
+80 0C 4C 4F 4E 47 45 52 4E 41 4D 45 2E 43
+99 2B 00 00 01 00 02 03 01
+8A 00
+--
+80 00
+8A 00";
+
+/// Which map is that of modules which were given so, but for these attributes.
+const GIVEN: [(usize, &str, &str, &[(&str, &str)]); 2] = [
+    (
+        1,
+        TWO_MODULES,
+        TWO_OF_32_BITS,
+        &[("=28", "=29"), ("=68", "=69")],
+    ),
+    (
+        3,
+        ODD,
+        ODD_WITH_MORE,
+        &[
+            ("=2A", "=2B"),
+            ("=08", "=00"),
+            ("=3C", "=28"),
+            ("=30", "=28"),
+        ],
+    ),
+];
+
 /// Modules, what a map of their program shows, and that map.
 const MAPS: [(Shown, &str, &str); 4] = [
     // both parts of the code stand in front of the data
@@ -259,13 +306,14 @@ fn has_details(
     has_map(words, case, &linked)
 }
 
-/// The map of the program of these records is that.
-fn is_map(words: Global, shown: Shown, records: &str, map: &str) -> Result<(), Fail> {
+/// The map of the program of these records is that, where its modules were given as those.
+fn is_map(words: Global, shown: Shown, records: &str, given: &str, map: &str) -> Result<(), Fail> {
     let row = read_row(words, records)?;
+    let given = read_row(words, given)?;
     let modules = read_modules(words, &row.inputs)?;
     let layout = place(words, &modules, Names::Exact)?;
     let mut inputs = Vec::new(words);
-    for input in &row.inputs {
+    for input in &given.inputs {
         inputs.push(input.as_slice())?;
     }
     let case = Case {
@@ -279,7 +327,32 @@ fn is_map(words: Global, shown: Shown, records: &str, map: &str) -> Result<(), F
 #[test]
 fn maps_have_parts_of_segments(rt: HostRuntime) -> Result<(), Fail> {
     for (shown, records, map) in MAPS {
-        is_map(rt.alloc(), shown, records, map)?;
+        is_map(rt.alloc(), shown, records, records, map)?;
+    }
+    Ok(())
+}
+
+/// A text with the first of these words, and those behind each other, as others.
+fn changed(alloc: Global, text: &str, changes: &[(&str, &str)]) -> Result<String, Fail> {
+    let mut out = String::new(alloc);
+    let mut rest = text;
+    for (old, new) in changes {
+        let (front, behind) = rest.split_once(*old).unwrap_or((rest, ""));
+        out.push_str(front)?;
+        out.push_str(new)?;
+        rest = behind;
+    }
+    out.push_str(rest)?;
+    Ok(out)
+}
+
+/// Attributes are those of the records that were given, and where these define no segment, those of the module's.
+#[test]
+fn parts_have_given_attributes(rt: HostRuntime) -> Result<(), Fail> {
+    let alloc = rt.alloc();
+    for (index, records, given, changes) in GIVEN {
+        let (shown, _, map) = MAPS[index];
+        is_map(alloc, shown, records, given, &changed(alloc, map, changes)?)?;
     }
     Ok(())
 }

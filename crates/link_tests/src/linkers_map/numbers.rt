@@ -32,6 +32,21 @@ const TWO_MODULES: &str = "\
 94 00 02 08 00 02 00
 8A 00";
 
+/// The same two with the lines in records of 32 bits, and lines beyond each segment; one record ends in a line.
+const TWO_OF_32_BITS: &str = "\
+80 07 68 65 6C 6C 6F 2E 63
+95 00 01 0C 00 00 00 00 00 0D 00 03 00 00 00 0E 00 00 00 01 00 0F 00 09 00 00 00
+94 00 01 11 00 0C 00
+95 01 02 01 00 04 00 00 00 02 00 04 00 00 01 02 00 04 00 00
+95 00 01 12 00 10 00 00 00
+8A 00
+--
+80 03 62 2E 63
+95 00 01 07 00 02 00 00 00
+95 00
+95 00 02 08 00 02 00 00 00
+8B 00";
+
 /// Modules, and the map of their program in a form.
 const MAPS: [(MapForm, &str, &str); 3] = [
     (
@@ -235,13 +250,14 @@ fn has_numbers(
     has_map(words, case, &linked)
 }
 
-/// The map of the program of these records is that.
-fn is_map(words: Global, form: MapForm, records: &str, map: &str) -> Result<(), Fail> {
+/// The map of the program of these records is that, where its modules were given as those.
+fn is_map(words: Global, form: MapForm, records: &str, given: &str, map: &str) -> Result<(), Fail> {
     let row = read_row(words, records)?;
+    let given = read_row(words, given)?;
     let modules = read_modules(words, &row.inputs)?;
     let layout = place(words, &modules, Names::Exact)?;
     let mut inputs = Vec::new(words);
-    for input in &row.inputs {
+    for input in &given.inputs {
         inputs.push(input.as_slice())?;
     }
     let case = Case {
@@ -255,7 +271,14 @@ fn is_map(words: Global, form: MapForm, records: &str, map: &str) -> Result<(), 
 #[test]
 fn maps_have_line_numbers(rt: HostRuntime) -> Result<(), Fail> {
     for (form, records, map) in MAPS {
-        is_map(rt.alloc(), form, records, map)?;
+        is_map(rt.alloc(), form, records, records, map)?;
     }
     Ok(())
+}
+
+/// Lines of records of 32 bits are listed as others; one beyond each segment is none.
+#[test]
+fn maps_have_line_numbers_of_32_bits(rt: HostRuntime) -> Result<(), Fail> {
+    let (form, records, map) = MAPS[0];
+    is_map(rt.alloc(), form, records, TWO_OF_32_BITS, map)
 }

@@ -419,36 +419,24 @@ A0 01 00 00 00 00 00 00
     )
 }
 
-/// What a module declares as local to it.
+/// What a module declares as local to it, behind what it has.
 #[test]
-fn placed_locally(rt: HostRuntime) -> Result<(), Fail> {
+fn joined_locally(rt: HostRuntime) -> Result<(), Fail> {
     run(
         rt.alloc(),
-        Asked::Local { in_bss: false },
+        Asked::Joined { in_bss: false },
         "\
-# behind two names
+# near and far, behind nothing
 B8 01 61 00 62 02 01 62 00 61 03 04
 --
 B4 01 61 00 01 62 00
-= 96 06 44 47 52 4F 55 50 08 63 5F 63 6F 6D*2 6F 6E; 96 03 42 53*2 07 46 41 52 5F 42 53*2; \
-98 48 02 00 04 05 00; 9A 03 FF 01; 98 60 0C 00 06*2 00; B6 01*3 61 00*3; B6 00 02 01 62 00*3; 8A 00; \
-c_common.BSS 2 Public 2; FAR_BSS.FAR_BSS 16 Private 12; DGROUP 0; a 0:0 of 0 local; b 1:0 local; and more
+= c_common.BSS 2 Public 2; FAR_BSS.FAR_BSS 16 Private 12; DGROUP 0; a 0:0 of 0 local; b 1:0 local; and more
 
-# the greatest length of two, far ones alone, and what stands behind the module
+# the greatest length of two, far ones alone
 B8 01 62 00 61 01 04 01 62 00 61 03 04
 --
-raw 80 03 00 01 41 00 8A 02 00 00 00 FF
-= 96 06 44 47 52 4F 55 50 08 63 5F 63 6F 6D*2 6F 6E; 96 03 42 53*2 07 46 41 52 5F 42 53*2; \
-98 60 0C 00 04*2 00; B6 00 01*2 62 00*3; 8A 00;  FF\
-FAR_BSS.FAR_BSS 16 Private 12; b 0:0 local;
-
-# indexes of two bytes
-B8 01 61 00 62 81 00 01
---
-96 00*125
-= 96 06 44 47 52 4F 55 50 08 63 5F 63 6F 6D*2 6F 6E; 96 03 42 53*2 07 46 41 52 5F 42 53*2; \
-98 48 00 01 80 81 80 82 00; 9A 80*2 FF 01; B6 01*3 61 00*3; 8A 00; \
-c_common.BSS 2 Public 256; DGROUP 0; a 0:0 of 0 local;
+8A 00
+= FAR_BSS.FAR_BSS 16 Private 12; b 0:0 local;
 
 # a local public wins, and another doesn't; so no variable is left, or one
 B8 01 61 00 62 02
@@ -461,15 +449,15 @@ B8 01 61 00 62 02
 --
 98 28 02 00 02 02 01
 90 00 01 01 61 00 00 00
-= 96 06 44 47 52 4F 55 50 08 63 5F 63 6F 6D*2 6F 6E; 96 03 42 53*2 07 46 41 52 5F 42 53*2; \
-98 48 02 00 04 05 00; 9A 03 FF 02; B6 01 02 01 61 00*3; 8A 00; \
-CODE.CODE 1 Public 2; c_common.BSS 2 Public 2; DGROUP 1; a 0:0; a 1:0 of 0 local;
+= CODE.CODE 1 Public 2; c_common.BSS 2 Public 2; DGROUP 1; a 0:0; a 1:0 of 0 local;
 
-# no record ends the module
-B8 01 61 00 62 02
+# of two, that which is local wins
+B8 01 61 00 62 02 01 62 00 62 02
 --
-raw 80 03 00 01 41 00
-= same
+98 28 02 00 02 02 01
+B6 00 01 01 62 01 00 00 01 63 00 00 00
+90 00 01 01 61 00 00 00
+= CODE.CODE 1 Public 2; c_common.BSS 2 Public 2; DGROUP 1; b 0:1 local; c 0:0 local; a 0:0; a 1:0 of 0 local;
 
 # near and far
 B8 01 61 00 62 02 01 61 00 61 01 02
@@ -489,27 +477,29 @@ B8 01 61 00 61 81 00 80 03
 B4 01 61 00
 = 58 0
 
-# the last index of a name, and one more than that
-B8 01 61 00 61 01 01
---
-96 00*32761
-= 96 06 44 47 52 4F 55 50 08 63 5F 63 6F 6D*2 6F 6E; 96 03 42 53*2 07 46 41 52 5F 42 53*2; \
-98 60 01 00 FF*4 00; B6 00 01*2 61 00*3; 8A 00; \
-FAR_BSS.FAR_BSS 16 Private 1; a 0:0 local;
-
+# the names of a module don't count
 B8 01 61 00 61 01 01
 --
 96 00*32762
-= 59 0",
+= FAR_BSS.FAR_BSS 16 Private 1; a 0:0 local;
+
+# behind a group, and one of the same name
+B8 01 61 00 62 03
+--
+96 04 5F 42 53 53 03 42 53 53 06 44 47 52 4F 55 50
+98 48 02 00 03 04 01
+9A 05 FF 01
+B4 01 61 00
+= _BSS.BSS 2 Public 2; c_common.BSS 2 Public 3; DGROUP 0; DGROUP 1; a 1:0 of 1 local; and more",
     )
 }
 
 /// The near segment is that of a module, which is this one.
 #[test]
-fn placed_locally_in_bss(rt: HostRuntime) -> Result<(), Fail> {
+fn joined_locally_in_bss(rt: HostRuntime) -> Result<(), Fail> {
     run(
         rt.alloc(),
-        Asked::Local { in_bss: true },
+        Asked::Joined { in_bss: true },
         "\
 B8 01 61 00 62 03
 --
@@ -517,8 +507,6 @@ B8 01 61 00 62 03
 98 48 02 00 03 04 01
 9A 05 FF 01
 B4 01 61 00
-= 96 06 44 47 52 4F 55 50 04 5F 42 53*2; 96 03 42 53*2 07 46 41 52 5F 42 53*2; \
-98 48 03 00 07 08 00; 9A 06 FF 02; B6 02*2 01 61 00*3; 8A 00; \
-_BSS.BSS 2 Public 2; _BSS.BSS 2 Public 3; DGROUP 0; DGROUP 1; a 1:0 of 1 local; and more",
+= _BSS.BSS 2 Public 2; _BSS.BSS 2 Public 3; DGROUP 0; DGROUP 1; a 1:0 of 1 local; and more",
     )
 }

@@ -2,11 +2,13 @@
 
 use omf_communal::{
     ClashFault, Communal, CommunalFault, Declaring, Extent, PlanFault, Scope, Variable,
-    communal_module, communals, far_by_offset, has_bss, local_module, local_names, variables,
+    communal_module, communals, far_by_offset, has_bss, local_module_bytes, local_names_of,
+    variables,
 };
-use omf_library::{ModuleNames, module_frames, module_names};
+use omf_library::{ModuleNames, module_names};
+use omf_module::{Module, with_declarations};
 use omf_place::Names;
-use rows::{push_bytes, push_module, push_text, read_modules, read_row, same};
+use rows::{push_module, push_read, push_text, read_modules, read_row, same};
 use std::alloc::{AllocError, Allocator, Global};
 use std::test::*;
 
@@ -19,8 +21,8 @@ pub enum Asked {
     Variables(Names),
     /// The module that has these.
     Module { in_bss: bool },
-    /// The second with the variables that the first declares as local to it: what it has behind its own records.
-    Local { in_bss: bool },
+    /// The second with the variables that the first declares as local to it.
+    Joined { in_bss: bool },
     /// Whether one of them has `_BSS` in DGROUP.
     Bss,
     /// Which of them reach far variables of the first by their offsets alone.
@@ -145,30 +147,6 @@ fn told_module<A: Allocator + Copy>(
     }
 }
 
-/// Appends the records of a module from that with a number on, as type and body, and what stands behind them.
-fn push_records(
-    alloc: Global,
-    text: &mut String,
-    bytes: &[u8],
-    first: usize,
-) -> Result<(), AllocError> {
-    let frames = module_frames(alloc, bytes)?;
-    let mut end = 0;
-    for (number, frame) in frames.iter().enumerate() {
-        if first <= number {
-            let kind = frame.kind;
-            write!(text, "{kind:02X}")?;
-            push_bytes(text, frame.body)?;
-            text.push_str("; ")?;
-        }
-        end = (frame.place as usize).saturating_add(frame.body.len().saturating_add(4));
-    }
-    if let Some(rest) = bytes.get(end..) {
-        push_bytes(text, rest)?;
-    }
-    Ok(())
-}
-
 /// What a module declares as local to it, and the local publics of another one.
 #[derive(Drop)]
 struct Local<'a, A: Allocator + Copy> {
@@ -189,43 +167,110 @@ fn local_variables<'a, A: Allocator + Copy>(
     variables(alloc, Names::Exact, &declaring)
 }
 
-/// The variables that one module declares as local to it, by the local publics of another.
+/// The variables that a module declares as local to it, by these local publics.
 fn locals<'a, A: Allocator + Copy>(
     alloc: A,
     own: &'a [u8],
-    lowered: &'a [u8],
+    offered: Vec<&'a [u8], A>,
 ) -> Result<Vec<Variable<'a>, A>, ClashFault> {
     let communals = match communals(alloc, own, Scope::Module) {
         Ok(communals) => communals,
         Err(_) => return Err(ClashFault::Memory),
     };
-    let offered = local_names(alloc, lowered)?;
     local_variables(alloc, &Local { communals, offered })
 }
 
-/// A module with the variables that another declares as local to it.
-fn told_local<A: Allocator + Copy>(
-    alloc: A,
-    words: Global,
+/// The module of these variables, which are local to one with so many segments; else none, and why.
+fn bytes_behind(
+    alloc: Global,
+    text: &mut String,
+    in_bss: bool,
+    segments: u64,
+    variables: &[Variable<'_>],
+) -> Result<Option<Vec<u8>>, AllocError> {
+    match local_module_bytes(alloc, segments, variables, in_bss) {
+        Ok(None) => text.push_str("same")?,
+        Ok(Some(bytes)) => return Ok(Some(bytes)),
+        Err(fault) => push_plan_fault(text, fault)?,
+    }
+    Ok(None)
+}
+
+/// What a module with so many segments gets that declares these variables as local to it.
+pub fn told_behind(alloc: Global, segments: u64, own: &[u8]) -> Result<String, AllocError> {
+    let mut text = String::new(alloc);
+    match locals(alloc, own, Vec::new(alloc)) {
+        Ok(variables) => {
+            if let Some(bytes) = bytes_behind(alloc, &mut text, true, segments, &variables)? {
+                push_module(alloc, &mut text, &bytes)?;
+            }
+        }
+        Err(fault) => write!(text, "{fault}")?,
+    }
+    Ok(text)
+}
+
+/// The module of the variables that one declares as local to another; else none, and why.
+fn local_bytes(
+    alloc: Global,
+    text: &mut String,
+    in_bss: bool,
+    own: &[u8],
+    module: &Module,
+) -> Result<Option<Vec<u8>>, AllocError> {
+    match locals(alloc, own, local_names_of(alloc, module)?) {
+        Ok(variables) => {
+            let segments = module.segment_count() as u64;
+            bytes_behind(alloc, text, in_bss, segments, &variables)
+        }
+        Err(fault) => {
+            write!(text, "{fault}")?;
+            Ok(None)
+        }
+    }
+}
+
+/// A module with the variables that another declares as local to it, behind what it declares itself.
+fn told_joined(
+    alloc: Global,
+    text: &mut String,
+    in_bss: bool,
+    own: &[u8],
+    module: Module,
+) -> Result<(), AllocError> {
+    let Some(bytes) = local_bytes(alloc, text, in_bss, own, &module)? else {
+        return Ok(());
+    };
+    let mut more = Vec::new(alloc);
+    more.push(bytes)?;
+    match read_modules(alloc, &more) {
+        Ok(modules) => match modules.as_slice() {
+            [more, ..] => match with_declarations(alloc, module, more)? {
+                Some(all) => push_read(text, &all),
+                None => text.push_str("too many"),
+            },
+            [] => text.push_str("no module"),
+        },
+        Err(fault) => write!(text, "{fault}"),
+    }
+}
+
+/// The same of a row.
+fn told_joined_row(
+    alloc: Global,
     text: &mut String,
     in_bss: bool,
     inputs: &[Vec<u8>],
 ) -> Result<(), AllocError> {
-    let [own, lowered, ..] = inputs else {
-        return text.push_str("one module");
+    let [own, others @ ..] = inputs else {
+        return text.push_str("no module");
     };
-    let variables = match locals(alloc, own, lowered) {
-        Ok(variables) => variables,
-        Err(fault) => return write!(text, "{fault}"),
-    };
-    match local_module(alloc, lowered, &variables, in_bss) {
-        Ok(None) => text.push_str("same"),
-        Ok(Some(bytes)) => {
-            let first = module_frames(words, lowered)?.len().saturating_sub(1);
-            push_records(words, text, &bytes, first)?;
-            push_module(words, text, &bytes)
-        }
-        Err(fault) => push_plan_fault(text, fault),
+    match read_modules(alloc, others) {
+        Ok(mut modules) => match modules.pop() {
+            Some(module) => told_joined(alloc, text, in_bss, own, module),
+            None => text.push_str("one module"),
+        },
+        Err(fault) => write!(text, "{fault}"),
     }
 }
 
@@ -285,7 +330,7 @@ pub fn told<A: Allocator + Copy>(
     match asked {
         Asked::Bss => told_bss(words, &mut text, inputs)?,
         Asked::Far(names) => told_far(words, &mut text, names, inputs)?,
-        Asked::Local { in_bss } => told_local(alloc, words, &mut text, in_bss, inputs)?,
+        Asked::Joined { in_bss } => told_joined_row(words, &mut text, in_bss, inputs)?,
         Asked::Communals => {
             for bytes in inputs {
                 told_communals(alloc, &mut text, bytes)?;

@@ -155,6 +155,15 @@ fn cut(rt: HostRuntime) -> Result<(), Fail> {
 98 54 E9 03 01 02 01
 90 00 01 01 61 E8 03 00
 A0 01 E8 03 41
-= | record 37: data passes the end of its segment; record 37: data passes the end of its segment",
+= module 0, place 37
+
+# in the second module, behind data that lies in its part
+98 54 E0 03 01 02 01
+--
+98 74 10 00 01 02 01
+98 74 10 00 01 02 01
+A0 01 07 00 41
+A0 02 00 00 42
+= module 1, place 44",
     )
 }

@@ -2,8 +2,8 @@
 
 use omf_module::{Kind, Module, Standing};
 use omf_place::{Names, place};
-use omf_stack::{Stack, cut_stack, stack_module};
-use rows::{push_module, read_modules, read_row, same};
+use omf_stack::{CutFault, Stack, cut_stack_of, stack_module};
+use rows::{push_module, push_read, read_modules, read_row, same};
 use std::alloc::Global;
 use std::test::*;
 
@@ -88,31 +88,22 @@ fn push_reached(
 fn push_cut(
     alloc: Global,
     text: &mut String,
-    inputs: Vec<Vec<u8>>,
-    modules: &[Module],
+    modules: Vec<Module>,
     bytes: u32,
 ) -> Result<(), Fail> {
-    let mut slices = Vec::new(alloc);
-    for input in &inputs {
-        slices.push(input.as_slice())?;
-    }
-    let mut all = Vec::new(alloc);
-    if modules.len() != slices.len() {
-        return Ok(());
-    }
-    let new = cut_stack(alloc, modules, &slices, bytes)?;
-    for (index, input) in inputs.iter().enumerate() {
-        let bytes = match new.get(index) {
-            Some(Some(bytes)) => bytes.as_slice(),
-            _ => input.as_slice(),
-        };
-        all.push(Vec::from_slice(alloc, bytes)?)?;
-        text.push_str("| ")?;
-        push_module(alloc, text, bytes)?;
-    }
-    match read_modules(alloc, &all) {
-        Ok(all) => push_length(alloc, text, &all),
-        Err(fault) => Ok(write!(text, "; {fault}")?),
+    match cut_stack_of(alloc, modules, bytes) {
+        Ok(all) => {
+            for module in &all {
+                text.push_str("| ")?;
+                push_read(text, module)?;
+            }
+            push_length(alloc, text, &all)
+        }
+        Err(CutFault::Outside { module, place }) => Ok(write!(
+            text,
+            "module {module}, place {place}"
+        )?),
+        Err(CutFault::Memory) => Ok(text.push_str("no memory")?),
     }
 }
 
@@ -124,7 +115,7 @@ fn run_row(alloc: Global, asked: Asked, row: &str) -> Result<(), Fail> {
         Ok(modules) => match asked {
             Asked::Wanted(bytes) => push_wanted(alloc, &mut text, &modules, bytes)?,
             Asked::Length(bytes) => push_reached(alloc, &mut text, inputs, &modules, bytes)?,
-            Asked::Cut(bytes) => push_cut(alloc, &mut text, inputs, &modules, bytes)?,
+            Asked::Cut(bytes) => push_cut(alloc, &mut text, modules, bytes)?,
         },
         Err(fault) => write!(text, "{fault}")?,
     }

@@ -1,4 +1,4 @@
-//! Lowered modules, written out record by record.
+//! Modules as they are given, held against what they say in records of the fourteen.
 
 #[cfg(test)]
 mod debug;
@@ -7,16 +7,16 @@ mod forms;
 #[cfg(test)]
 mod growths;
 #[cfg(test)]
-mod lowered;
+mod modules;
 #[cfg(test)]
 mod names;
 #[cfg(test)]
 mod narrow;
 #[cfg(test)]
-mod places;
-#[cfg(test)]
-mod plain;
+mod records;
 #[cfg(test)]
 mod renamed;
+#[cfg(test)]
+mod tables;
 #[cfg(test)]
 mod taken;

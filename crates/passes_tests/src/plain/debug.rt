@@ -1,7 +1,8 @@
 //! What debuggers read, and far data.
 
-use super::lowered::{PLAIN, run};
-use omf_lower::Lowering;
+use super::tables::{run, run_as};
+use omf_alias::Renaming;
+use omf_place::Names;
 use std::test::*;
 
 /// Segments of the classes that debuggers read are kept out.
@@ -10,7 +11,6 @@ fn kept_out(rt: HostRuntime) -> Result<(), Fail> {
     run(
         &rt,
         rt.alloc(),
-        PLAIN,
         "\
 # no such segment
 98 28 02 00 02 02 01
@@ -111,11 +111,11 @@ C2 00 00 01 00 00 00 00 01 02
 /// They are kept where that is asked.
 #[test]
 fn kept(rt: HostRuntime) -> Result<(), Fail> {
-    let lowering = Lowering { keep_debug: true };
-    run(
+    run_as(
         &rt,
         rt.alloc(),
-        lowering,
+        true,
+        &Renaming::none(Names::Exact),
         "\
 80 01 41
 96 00 05 44 57 41 52 46
@@ -125,13 +125,12 @@ A0 01 00 00 11 22
     )
 }
 
-/// Segments of class FAR_DATA are lowered as any other: each keeps its name, and combines as it did.
+/// Segments of class FAR_DATA are taken as any other: each keeps its name, and combines as it did.
 #[test]
 fn far_data(rt: HostRuntime) -> Result<(), Fail> {
     run(
         &rt,
         rt.alloc(),
-        PLAIN,
         "\
 # private, public, a stack and common, of 65,536 bytes, with an index of two bytes, and absolute
 80 01 41
@@ -166,13 +165,12 @@ fn no_records(rt: HostRuntime) -> Result<(), Fail> {
     run(
         &rt,
         rt.alloc(),
-        PLAIN,
         "\
 raw
 
 raw 80
 
-# a closing byte of 0 stays, one that is wrong ends what is lowered
+# a closing byte of 0, and one that is wrong
 raw 80 03 00 01 41 00
 raw 96 08 00 00 05 44 57 41 52 46 00
 raw 98 07 00 28 02 00 01 02 01 00

@@ -1,6 +1,6 @@
 //! Externals whose names stand for others.
 
-use super::lowered::{PLAIN, run_renamed};
+use super::tables::run_as;
 use omf_alias::{
     Alias, Aliases, NameMap, NamedValue, Renaming, endless, meaning, push_module_aliases,
 };
@@ -67,13 +67,13 @@ B4 01 61 00
 B4 01 61 00
 90 00 01 01 61 00 00 00
 
-# what stands behind an external that is cut
+# externals of which one is cut
 8C 01 61 00 05 61
 = record 2: its body isn't one of its type
 
-# before one that is cut nothing is an alias
-8C 01 78 00 05 61 01 61 00";
-    run_renamed(&rt, alloc, PLAIN, &renaming, table)
+8C 01 78 00 05 61 01 61 00
+= record 2: its body isn't one of its type";
+    run_as(&rt, alloc, false, &renaming, table)
 }
 
 /// Names that agree by their case alone.

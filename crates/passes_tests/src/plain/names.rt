@@ -1,6 +1,6 @@
 //! Names and externals.
 
-use super::lowered::{PLAIN, run};
+use super::tables::run;
 use std::test::*;
 
 /// Other records of names and of externals become those of the same names at the same place.
@@ -9,7 +9,6 @@ fn names(rt: HostRuntime) -> Result<(), Fail> {
     run(
         &rt,
         rt.alloc(),
-        PLAIN,
         "\
 # LHEADR, and LLNAMES, whose name has an index
 80 01 41
@@ -47,13 +46,12 @@ BC 02 00 80 01 80 05
     )
 }
 
-/// What isn't lowered is told at its record.
+/// What isn't taken is told at its record.
 #[test]
 fn faults(rt: HostRuntime) -> Result<(), Fail> {
     run(
         &rt,
         rt.alloc(),
-        PLAIN,
         "\
 # the data type of a virtual segment, behind one that is near
 B0 01 61 00 62 02 01 62 00 05 01
@@ -89,13 +87,7 @@ BC 03 00
 = record 2: its body isn't one of its type
 
 BC 00 00
-= record 2: its body isn't one of its type
-
-# 300 times a name of 255 bytes
-80 01 41
-96 FF 41*255
-BC 01*600
-= record 2: what it is lowered to is longer than a record may be",
+= record 2: its body isn't one of its type",
     )
 }
 
@@ -105,7 +97,6 @@ fn comments(rt: HostRuntime) -> Result<(), Fail> {
     run(
         &rt,
         rt.alloc(),
-        PLAIN,
         "\
 88 80 AA 38 30 33 38 36
 = record 2: the module is Easy OMF
@@ -130,10 +121,15 @@ C6 01 61 02 62
 88 00 A0
 88 AA 00 AA
 88 A0 00 01
-88 AA
-88
 8A 00
-88 80 AA 38 30 33 38 36",
+88 80 AA 38 30 33 38 36
+
+# no class, and no type
+88 AA
+= record 2: its body isn't one of its type
+
+88
+= record 2: its body isn't one of its type",
     )
 }
 
@@ -143,7 +139,6 @@ fn flat(rt: HostRuntime) -> Result<(), Fail> {
     run(
         &rt,
         rt.alloc(),
-        PLAIN,
         "\
 # the group alone, and others and segments of its index
 80 01 41
@@ -201,6 +196,7 @@ A1 01 00*8
 96 00 04 46 4C 41 54
 9A 02
 9C C4 00 8D 45 02 01
+= record 3: its body isn't one of its type
 
 # in threads
 80 01 41
@@ -225,13 +221,14 @@ A1 01 00*8
 80 01 41
 96 00 04 46 4C 41 54
 9A 02
-8B C1 55 01 00 00 00 00
+8B C1 51 01 00 00 00 00
 = record 3: an address counts from the group FLAT
 
 80 01 41
 96 00 04 46 4C 41 54
 9A 02
 8A 80 10 01 01 00 00
+= record 3: its body isn't one of its type
 
 # as the base of public names, and another group and none as theirs
 80 01 41

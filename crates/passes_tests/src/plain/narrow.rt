@@ -1,6 +1,6 @@
 //! Records of 32 bits with content of 16.
 
-use super::lowered::{PLAIN, run};
+use super::tables::run;
 use std::test::*;
 
 /// Numbers of four bytes are written in two.
@@ -9,7 +9,6 @@ fn numbers(rt: HostRuntime) -> Result<(), Fail> {
     run(
         &rt,
         rt.alloc(),
-        PLAIN,
         "\
 # SEGDEF, of 32 bits by its type and by P
 99 A9 10 00 00 00 02 02 01
@@ -61,7 +60,6 @@ fn fixups(rt: HostRuntime) -> Result<(), Fail> {
     run(
         &rt,
         rt.alloc(),
-        PLAIN,
         "\
 # LEDATA: locations 9 and 13 become 5, displacements two bytes; others and threads stay
 A1 01 04 00 00 00 05 00 00 00 FF FF 00 00 AA
@@ -103,7 +101,6 @@ fn wide_fixups(rt: HostRuntime) -> Result<(), Fail> {
     run(
         &rt,
         rt.alloc(),
-        PLAIN,
         "\
 # one, and one by a displacement of two bytes; the lower word stays, whatever it is
 A0 01 00 00 05 00 00 00 FF FF 00 00
@@ -200,9 +197,8 @@ A0 01 00 00 00 00 00
 9C E4 00 54 01
 = record 3: a fix-up of 32 bits can't be one of 16
 
-C2 00 00 00 00 00 00 00 01 02 00 00 00 00
 9C E4 00 54 01
-= record 3: a fix-up of 32 bits can't be one of 16
+= record 2: a fix-up of 32 bits can't be one of 16
 
 # and one behind which the record isn't one of its type
 A0 01 00 00 00 00 00 00
@@ -211,13 +207,12 @@ A0 01 00 00 00 00 00 00
     )
 }
 
-/// What isn't lowered is told at its record.
+/// What isn't taken is told at its record.
 #[test]
 fn faults(rt: HostRuntime) -> Result<(), Fail> {
     run(
         &rt,
         rt.alloc(),
-        PLAIN,
         "\
 # numbers above 16 bits
 99 A9 01 00 01 00 02 02 01

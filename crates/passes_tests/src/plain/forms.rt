@@ -1,6 +1,6 @@
 //! Forms of records that no assembler at hand writes.
 
-use super::lowered::{PLAIN, run};
+use super::tables::run;
 use std::test::*;
 
 /// Segments, names and externals: indexes of two bytes, frame words, and bodies without entries.
@@ -9,7 +9,6 @@ fn definitions(rt: HostRuntime) -> Result<(), Fail> {
     run(
         &rt,
         rt.alloc(),
-        PLAIN,
         "\
 # SEGDEF: indexes of two bytes, an absolute one, and one of 65,536 bytes with P
 99 69 FF FF 00 00 80 02 80 02 80 01
@@ -59,18 +58,39 @@ C6
 --
 88 00 DA
 
-# types that are lowered to none
+# types that say nothing in the fourteen
 B2 01 01 00 00 05 00
+= record 2: no record of its type is linked
+
 B3 01 01 00 00 00 00 05 00 00 00
+= record 2: no record of its type is linked
+
 B9 01 61 00 62 02
+= record 2: no record of its type is linked
+
 BE 01 61
+= record 2: no record of its type is linked
+
 C3 00 00 00 00 00 00 00 00 00 01 02 AA
+= record 2: no record of its type is linked
+
 C4 00 02 05 00 10 00
+= record 2: no record of its type is linked
+
 C5 00 02 05 00 10 00 00 00
+= record 2: no record of its type is linked
+
 C8 01 02 00 00 05 00
+= record 2: no record of its type is linked
+
 C9 01 02 00 00 00 00 05 00 00 00
+= record 2: no record of its type is linked
+
 CC 00
-CE 00",
+= record 2: no record of its type is linked
+
+CE 00 00
+= record 2: no record of its type is linked",
     )
 }
 
@@ -80,7 +100,6 @@ fn data(rt: HostRuntime) -> Result<(), Fail> {
     run(
         &rt,
         rt.alloc(),
-        PLAIN,
         "\
 # LEDATA: an index of two bytes, and no data
 A1 80 01 FF FF 00 00 AA
@@ -131,8 +150,6 @@ A0 01 00 00 00*8
 8A 00
 
 8B 41 54 01 AA
---
-8A 41 54 01 AA
-8A 00",
+= record 2: its body isn't one of its type",
     )
 }
