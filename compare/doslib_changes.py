@@ -155,6 +155,71 @@ RECORDS = [
            "            names = answer.__dict__.setdefault(\"names\", Names())\n            for record"),
     Change("faults of bodies stand last", SHOW, "[*wrong, *faults]", "[*faults, *wrong]"),
 ]
+PROGRAM = "programs.py"
+PROGRAMS = [
+    Change("a word stands in its file high byte first", PROGRAM,
+           "    return content[place] + 256 * content[place + 1]\n",
+           "    return 256 * content[place] + content[place + 1]\n"),
+    Change("SS stands behind SP", PROGRAM, '"initial SS", "initial SP"', '"initial SP", "initial SS"'),
+    Change("a last page of no bytes is none", PROGRAM, "(512 - last if last else 0)", "(512 - last)"),
+    Change("memory is counted from the image's last byte on", PROGRAM,
+           'max(len(self.image), 16 * (len(self.image) // 16 + self.words["minimum allocation"]))',
+           'len(self.image) + 16 * self.words["minimum allocation"]'),
+    Change("a program fits up to its image's end", PROGRAM, "if 16 * paragraph + self.needed() > MEMORY:",
+           "if 16 * paragraph + len(self.image) > MEMORY:"),
+    Change("the paragraph is added to no word", PROGRAM,
+           "(word(image, place) + paragraph) % 65536", "word(image, place)"),
+    Change("an entry has its segment first", PROGRAM, "(word(content, place + 2), word(content, place))",
+           "(word(content, place), word(content, place + 2))"),
+    Change("a word may stand across the image's end", PROGRAM, "16 * segment + offset + 2 > len(image)",
+           "16 * segment + offset + 1 > len(image)"),
+    Change("a header that contradicts itself is cut off", PROGRAM,
+           "        raise AtFault(36)\n", "        raise AtFault(37)\n"),
+    Change("the image has what stands behind it", PROGRAM,
+           "image = content[header:length]", "image = content[header:]"),
+    Change("what stands behind the image isn't counted", PROGRAM, "len(content) - length)", "0)"),
+    Change("an image may be written over its program", PROGRAM, "if image and is_over(path, content, image):",
+           "if False:"),
+    Change("one file is one path", PROGRAM,
+           "posixpath.normpath(image.path) == posixpath.normpath(path)", "False"),
+    Change("a file that can't be written is no fault", PROGRAM,
+           "if written is not None and not image.can_be_made:", "if False:"),
+]
+MATCH = "matching.py"
+MATCHES = [
+    Change("seven known bytes are enough", MATCH,
+           "MOST_PLACES, LEAST_KNOWN = 16, 8", "MOST_PLACES, LEAST_KNOWN = 16, 7"),
+    Change("seventeen places are told", MATCH,
+           "MOST_PLACES, LEAST_KNOWN = 16, 8", "MOST_PLACES, LEAST_KNOWN = 17, 8"),
+    Change("a segment stands at any place", MATCH, "if place % alignment == 0][:MOST_PLACES]", "][:MOST_PLACES]"),
+    Change("fix-ups change nothing", MATCH, "None if place in changed else byte", "byte"),
+    Change("earlier data stands in place of later", MATCH, "    for data in found.data:\n        if data.segment == index:\n"
+           "            locations", "    for data in reversed(found.data):\n        if data.segment == index:\n"
+           "            locations"),
+    Change("a fix-up of repeated data is told once", MATCH,
+           "            for number, (stored, _) in enumerate(data.stored):\n",
+           "            for number, (stored, _) in list(enumerate(data.stored))[:fixup.offset + 1]:\n"),
+    Change("a pointer's offset stands before its frame", MATCH,
+           '"{word(image, place + 2):04X}:{word(image, place):04X}"',
+           '"{word(image, place):04X}:{word(image, place + 2):04X}"'),
+    Change("self-relative fix-ups are told as the others", MATCH,
+           '"" if fixup.segment_relative else "self "', '""'),
+    Change("a module is told of that stands nowhere", MATCH, "        if lines:\n", "        if True:\n"),
+    Change("debugging data is looked for", MATCH,
+           'lowering.lowered(content, False, "")', 'lowering.lowered(content, True, "")'),
+    Change("places of faults are those in the member", MATCH, "AS_LISTED.get(number, number), begin + place)",
+           "AS_LISTED.get(number, number), place)"),
+    Change("faults of framing are those of a link", MATCH, "AS_LISTED.get(number, number), begin", "number, begin"),
+    Change("a wrong body has one number for all types", MATCH,
+           "number = BODY if content[place] in parsing.PARSERS else NO_SAYING", "number = BODY"),
+    Change("what else is wrong comes before a wrong body", MATCH,
+           "(number == BODY or is_wrong_body(content, place))", "number == BODY"),
+    Change("a wrong body of a type that isn't linked is told as one", MATCH, "number not in (*AS_LISTED, TYPE)",
+           "number not in AS_LISTED"),
+    Change("communal variables have the faults of other records", MATCH, "OF_COMMUNALS.get(number, number)", "number"),
+    Change("a run of bytes that are left has one more", MATCH,
+           "{run.end() - run.start():7}", "{run.end() - run.start() + 1:7}"),
+]
 MAKE = "making.py"
 LIBRARIES = [
     Change("a library is made of faulty files", MAKE,
@@ -201,4 +266,4 @@ OF_NAMES = [
     Change("a module of a library is told by its path alone", MAKE,
            'return source.path if source.kind == listing.MODULE else f"{source.path}({name})"', "return source.path"),
 ]
-CHANGES = [*RECORDS, *FILES, *NAMES, *PRINTED, *LIBRARIES, *OF_NAMES]
+CHANGES = [*RECORDS, *FILES, *NAMES, *PRINTED, *PROGRAMS, *MATCHES, *OF_NAMES, *LIBRARIES]

@@ -8,16 +8,19 @@ from pathlib import Path
 
 import comparison
 from comparison import expect
-from generator import listings
-from model import faults, listing, making, showing
+from generator import listings, programs as generated, searched
+from model import faults, listing, making, matching, programs, showing
 
-KINDS = (listing.MODULE, listing.LIBRARY, listing.ARCHIVE, "unread", "output")
+KINDS = (
+    listing.MODULE, listing.LIBRARY, listing.ARCHIVE, programs.PROGRAM, matching.MATCH, "unread", "output")
+PROGRAM, IMAGE, OLD = "FILE.EXE", "IMAGE.BIN", b"an older file"
 no_counts, lines_of_limits = comparison.no_counts, comparison.lines_of_limits
 # one seed in so many has an output that fails
 FAILS_EVERY = 50
 OUT = "OUT.LIB"
-# names of members that are asked for have no other characters, so that files can have them under any system
-PLAIN_NAME = re.compile(rb"\w+")
+# names of members that are asked for have no other characters, and no more of them, so that files can have them under
+# any system
+PLAIN_NAME = re.compile(rb"\w{1,200}")
 
 
 class Comparison(comparison.Comparison):
@@ -36,6 +39,8 @@ class Comparison(comparison.Comparison):
             self.run([command, *(path for path, _ in files)], answer, output)
         self.compare_names(chance, files)
         self.compare_libraries(chance, files)
+        self.compare_program(random.Random(f"{seed} of a program"))
+        self.compare_match(random.Random(f"{seed} of a match"))
 
     def compare_names(self, chance, files):
         """What is told of the names of files."""
@@ -78,6 +83,33 @@ class Comparison(comparison.Comparison):
         names = [each.swapcase() if chance.random() < 0.3 else each for each in names]
         return [*names, "none"] if not names or chance.random() < 0.1 else names
 
+    def compare_program(self, chance):
+        """What is told of a program, and mostly its image, in a folder that often has an older one."""
+        content, paragraph = generated.program_file(chance)
+        if chance.random() < 0.03:
+            content = chance.choice([listings.NO_FILE, listings.FOLDER])
+        self.put([(PROGRAM, content), (IMAGE, OLD if chance.random() < 0.3 else listings.NO_FILE)])
+        image, words = any_image(chance, paragraph)
+        answer, written = comparison.asked(programs.tell_program, PROGRAM, content, image)
+        output = None
+        if chance.random() < 0.02 and answer.output:
+            answer, written, output = listing.at_failing_output(answer), None, comparison.FULL_DEVICE
+        self.counts.ends.update(answer.ends)
+        self.run(["program", PROGRAM, *words], answer, output, {} if written is None else {IMAGE: written})
+
+    def compare_match(self, chance):
+        """Which modules of files stand in a program."""
+        program, given = searched.files(chance)
+        if chance.random() < 0.03:
+            program = chance.choice([listings.NO_FILE, listings.FOLDER, program[:20], program[1:]])
+        files = [(self.path_of(path), content) for path, content in given]
+        self.put([(PROGRAM, program), *files])
+        answer, output = comparison.asked(matching.match_files, PROGRAM, program, files), None
+        if chance.random() < 0.02 and answer.output:
+            answer, output = listing.at_failing_output(answer), comparison.FULL_DEVICE
+        self.counts.ends.update(answer.ends)
+        self.run(["match", PROGRAM, *(path for path, _ in files)], answer, output)
+
     def path_of(self, path):
         """What a path is called here, which may be a system that hasn't all names of files."""
         return path
@@ -94,8 +126,8 @@ class Comparison(comparison.Comparison):
                 (self.folder / path).write_bytes(content)
                 self.there[path] = content
 
-    def run(self, words, answer, output=None):
-        """Does what the words ask for, and compares the status and both streams."""
+    def run(self, words, answer, output=None, written=None):
+        """Does what the words ask for, and compares the status, both streams, and the files that are there then."""
         environment = {**os.environ, "LC_ALL": "C.UTF-8"}
         with open(output or os.devnull, "wb") as stdout:
             done = subprocess.run(
@@ -104,7 +136,7 @@ class Comparison(comparison.Comparison):
         expect("the faults", done.stderr, answer.error)
         expect("the status", [done.returncode], [answer.status])
         expect("the output", done.stdout or b"", answer.output)
-        self.check_files(getattr(answer, "written", {}))
+        self.check_files(getattr(answer, "written", {}) if written is None else written)
 
     def check_files(self, written):
         """The folder has the files of before, and those that were written."""
@@ -113,6 +145,22 @@ class Comparison(comparison.Comparison):
         for path, content in self.there.items():
             expect(f"the file {path}", found[path], content)
         expect("the files", sorted(os.listdir(self.folder)), sorted([*self.there, *self.folders]))
+
+
+def any_image(chance, paragraph):
+    """An image that is asked for or none, and the words for it."""
+    way = chance.random()
+    if way < 0.2:
+        return None, []
+    if way < 0.3:
+        return programs.Image(IMAGE), ["--image", IMAGE]
+    path, can_be_made = (IMAGE, True) if way < 0.92 else ("no/such", False)
+    if way >= 0.96:
+        # the program itself
+        path = chance.choice([PROGRAM, f"./{PROGRAM}"])
+    digits = f"{paragraph:04X}"
+    at = ["--at", digits if chance.random() < 0.8 else digits.lower()]
+    return programs.Image(path, paragraph, can_be_made), ["--image", path, *at]
 
 
 def compare_seeds(program, folder, seeds, keeps=False, kind=Comparison):

@@ -782,8 +782,6 @@ LOCAL = [
            "            each, content,\n"
            "            NEAR_NAME if has_near_segment(content) else OWN_NEAR_NAME, key)\n"
            "        for"),
-    Change("faults in records of local variables are told behind the end", "lowering.py",
-           "number = min(number, own - 1) if own", "number = min(number, own) if own"),
 ]
 
 
@@ -944,11 +942,12 @@ LINKING = [
            "key = (owner if public.is_local else None, public.name)"),
     Change("a record's place is that in the lowered module", "linking.py",
            "            fault.place = place\n", ""),
-    Change("a lowered record that is none of its type has omf's fault", "linking.py",
-           "if fault.number == BODY and", "if False and"),
-    Change("each record that is none of its type can't be lowered", "linking.py",
-           "if fault.number == BODY and lowering.record_bytes(owner.content, place) != lowered_to:",
-           "if fault.number == BODY:"),
+    Change("a record of any type that is none of its type has omf's fault", "taking.py",
+           "if kind in parsing.PARSERS else Fault(NO_SAYING", "if True else Fault(NO_SAYING"),
+    Change("each record that is none of its type has no saying", "taking.py",
+           "if kind in parsing.PARSERS else Fault(NO_SAYING", "if False else Fault(NO_SAYING"),
+    Change("what has no saying comes before what a record may not say", "taking.py",
+           "if later is not None and fault.number == NO_END:", "if later is not None:"),
     Change("OUT may be read", "linking.py", "        self.check_place(out)\n", ""),
     Change("a map may be read", "linking.py", "            self.check_place(map_path)\n", ""),
     Change("the map is written over the program", "linking.py",

@@ -3,7 +3,7 @@
 The model must give them.
 """
 
-from model import listing, making, showing
+from model import listing, making, matching, programs, showing
 
 A = "80 0300 0141 3B  8A 0200 00 74"
 PAGE_16 = "F0 0D00" + "AA" * 13
@@ -59,6 +59,100 @@ module "COUNT.OBJ" members 1
 """
 NAMES = ['offers "q"', 'communal "v"', 'wants "y"', 'library "LIB"']
 
+# a program of five bytes with a relocated word, and a byte behind it
+FIVE = "4D5A 2500 0100 0100 0200 0200 FFFF 0300 0001 CDAB 0400 0500 1C00 0000  0100 0000  B8 0010 8E D8  1A"
+TOLD = """\
+program "F"
+  00 5A4D signature
+  02 0025 bytes in last page
+  04 0001 pages
+  06 0001 relocations
+  08 0002 header paragraphs
+  0A 0002 minimum allocation
+  0C FFFF maximum allocation
+  0E 0003 initial SS
+  10 0100 initial SP
+  12 ABCD checksum
+  14 0004 initial IP
+  16 0005 initial CS
+  18 001C relocation table offset
+  1A 0000 overlay
+       32 bytes of the header
+        5 bytes of the image
+        1 bytes behind the image
+       32 bytes of memory at least
+  0000:0001 -> 00000001 1000
+"""
+# the bytes of no program, or of a damaged one, and the fault
+NO_PROGRAMS = [
+    ("", "37 Truncated"), ("4D", "37 Truncated"), ("5A4D", "35 Magic"), (FIVE[:-6], "37 Truncated"),
+    (FIVE.replace("2500", "0002"), "36 Header"),
+    (FIVE.replace("0100 0000  B8", "0400 0000  B8"), "38 RelocationOutside"),
+]
+
+
+def check_programs():
+    """The same of programs."""
+    content = bytes.fromhex(FIVE)
+    images = (None, None), (programs.Image("O"), "B8 0010 8E D8"), (programs.Image("O", 0x1234), "B8 3422 8E D8")
+    for image, written in images:
+        answer, found = programs.tell_program("F", content, image)
+        assert (answer.output.decode(), answer.error, answer.status) == (TOLD, b"", 0), answer.output.decode()
+        assert found == (written and bytes.fromhex(written)), found
+    answer, found = programs.tell_program("F", content, programs.Image("O", 0xFFFF))
+    assert (answer.output, answer.error, answer.status) == (TOLD.encode(), b"doslib: F: 39 DoesNotFit\n", 1)
+    answer, second = programs.tell_program("F", content, programs.Image("O", 0, False))
+    assert (answer.output, answer.error, answer.status) == (TOLD.encode(), b"doslib: O: 40 Device\n", 3)
+    assert (found, second) == (None, None)
+    for path in ("F", "./F"):
+        answer, found = programs.tell_program("F", content, programs.Image(path))
+        wanted = (b"", f"doslib: {path}: it is read and would be written\n".encode(), 2, None)
+        assert (answer.output, answer.error, answer.status, found) == wanted, (path, answer)
+    for digits, fault in NO_PROGRAMS:
+        answer, found = programs.tell_program("F", bytes.fromhex(digits), programs.Image("O"))
+        wanted = (b"", f"doslib: F: {fault}\n".encode(), 1, None)
+        assert (answer.output, answer.error, answer.status, found) == wanted, (digits, answer)
+
+
+# a program of sixteen bytes, a module that stands in it but for its first three and its last, and what is told
+LINKED = "4D5A 3000 0100 0000 0200" + 22 * "00" + "  001122 B83412 A1000005060708090A 33"
+STANDS = (
+    "80 0300 0141 3B  96 0700 00 04434F4445 00  98 0700 28 0C00 02 02 01 00  8C 0400 01 78 00 00"
+    "  A0 1000 01 0000 B80000 A1000005060708090A 00  9C 0500 C4 01 56 01 00  8A 0200 00 00")
+MATCHED = """\
+module "M" "A"
+  00000003      12 "CODE" "CODE"
+    00000004 1234 external "x"
+left 00000000       3
+left 0000000F       1
+"""
+
+# records behind a header, and the fault of the module in `match`
+NOT_TAKEN = [
+    ("90 0200 00 00", "6 Body"), ("B0 0600 01 76 00 62 00", "44 Truncated"), ("B0 0500 01 76 00 62 00", "53 Body"),
+    ("B0 0600 01 76 00 63 02 00", "54 DataType"), ("B8 0500 01 76 00 62 00", "51 Body"),
+    ("B8 0600 01 76 00 63 02 00", "48 DataType"), ("C6 0400 01 76 05 00", "51 Body"), ("91 0200 00 00", "51 Body"),
+    ("C2 0200 00 00", "5 Type"), ("70 0100 00", "5 Type"), ("8A 0200 40 00", "6 Body"), ("8B 0200 40 00", "51 Body"),
+]
+
+
+def check_matches():
+    """The same of modules in programs."""
+    program = bytes.fromhex(LINKED)
+    answer = matching.match_files("P", program, [("M", bytes.fromhex(STANDS))])
+    assert (answer.output.decode(), answer.error, answer.status) == (MATCHED, b"", 0), answer
+    others = [("A", bytes.fromhex(A[:16])), ("B", "no such file"), ("M", bytes.fromhex(STANDS))]
+    answer = matching.match_files("P", program, others)
+    assert answer.output.decode() == MATCHED and answer.status == 3, answer
+    assert answer.error == b"doslib: A: 44 Truncated at place 6\ndoslib: B: 1 Device: no such file\n", answer.error
+    for digits, fault in NOT_TAKEN:
+        content = bytes.fromhex("80 0300 0141 3B" + digits + ("8A 0200 00 00" if fault[:2] != "44" else ""))
+        answer = matching.match_files("P", program, [("M", content)])
+        assert answer.error == f"doslib: M: {fault} at place 6\n".encode(), (digits, answer.error)
+    answer = matching.match_files("M", bytes.fromhex(STANDS), others)
+    assert (answer.output, answer.error, answer.status) == (b"", b"doslib: M: 35 Magic\n", 1), answer
+
+
 # a module y that offers x, and one that has no header record
 Y = "80 0700 05 792E6F626A 00  90 0800 00 01 01 78 0000 00 00  8A 0200 00 00"
 HEADLESS = "8A 0200 00 00"
@@ -91,7 +185,6 @@ def check_libraries():
 
 def check():
     """Raises an AssertionError where the model gives another answer."""
-    check_libraries()
     for title, content, output, errors in FILES:
         answer = listing.list_files([("F", content)])
         assert answer.output.decode().splitlines() == output, title
@@ -106,3 +199,6 @@ def check():
     assert (wrong.status, wrong.error) == (1, b"doslib: F: 6 Body at place 0\n")
     both = listing.list_files([("F", bytes.fromhex(A[:16])), ("G", "no such file")])
     assert (both.status, both.error.decode().splitlines()[1:]) == (3, ["doslib: G: 1 Device: no such file"])
+    check_programs()
+    check_matches()
+    check_libraries()

@@ -865,8 +865,7 @@ LINKS = [
      "doslink: link: 23 ProgramTooLarge: 99,973 bytes over\n", "large.obj\ngroup.obj\n"),
     ("a program of 1,001,048,560 bytes", {"inputs": given(["huge.obj"])}, [],
      "doslink: link: 23 ProgramTooLarge: 1,000,000,000 bytes over\n", "huge.obj\n"),
-    ("a segment that is none as it is lowered", {"inputs": given(["amiss.obj"])}, [],
-     "doslink: warning: 32-bit segments of amiss.obj are linked as 16-bit ones\n"
+    ("a segment of 32 bits that is none", {"inputs": given(["amiss.obj"])}, [],
      "doslink: amiss.obj: 51 Body at record 16\n", "amiss.obj\n"),
     ("a module at fault", {"inputs": given(["bad"])}, [],
      "doslink: bad: 3 Truncated at record 0: this is a text; assemble or compile it first\n",

@@ -24,9 +24,11 @@ DEVICE_FAULTS = (1, 40)
 
 # types of records that no module may have, as a line tells them behind their numbers
 TYPE_NAMES = {
-    0x76: " OVLDEF", 0x7A: " BLKDEF", 0x7C: " BLKEND", 0x7E: " DEBSYM", 0x8E: " TYPDEF", 0x92: " LOCSYM",
-    0xB2: " BAKPAT", 0xB3: " BAKPAT", 0xC2: " COMDAT", 0xC3: " COMDAT", 0xC4: " LINSYM", 0xC5: " LINSYM",
-    0xC8: " NBKPAT", 0xC9: " NBKPAT", 0xCC: " VERNUM", 0xCE: " VENDEXT",
+    0x6E: " RHEADR", 0x70: " REGINT", 0x72: " REDATA", 0x74: " RIDATA", 0x76: " OVLDEF", 0x78: " ENDREC",
+    0x7A: " BLKDEF", 0x7C: " BLKEND", 0x7E: " DEBSYM", 0x84: " PEDATA", 0x86: " PIDATA", 0x8E: " TYPDEF",
+    0x92: " LOCSYM", 0xA4: " LIBHED", 0xA6: " LIBNAM", 0xA8: " LIBLOC", 0xAA: " LIBDIC", 0xB2: " BAKPAT",
+    0xB3: " BAKPAT", 0xC2: " COMDAT", 0xC3: " COMDAT", 0xC4: " LINSYM", 0xC5: " LINSYM", 0xC8: " NBKPAT",
+    0xC9: " NBKPAT", 0xCC: " VERNUM", 0xCE: " VENDEXT",
 }
 
 PRINTABLE = frozenset(range(0x20, 0x7F)) - frozenset(b'"\\')

@@ -11,7 +11,7 @@ from typing import Optional
 
 from model import (
     communal, directives, faults, foreign, forms, image, libraries, line_jobs, line_numbers, lines, link_map,
-    local, lowering, module, naming, ordering, parts, printing, search, stack)
+    local, lowering, module, naming, ordering, parts, printing, search, stack, taking)
 from model.commands import Answer, Output
 from model.directives import Form
 from model.faults import Fault, escaped, printed_name
@@ -27,7 +27,7 @@ NO_CODE = "no module has a byte of code"
 IS_REACHED = "is far and reached by its offset alone: declare it near (NASM: common NAME:near SIZE)"
 # what is put behind the name of a library that has no dot, in turn
 ENDINGS = ["", ".LIB", ".lib"]
-TYPE, BODY, DUPLICATE, NO_PROGRAM = 5, 6, 25, 67
+TYPE, DUPLICATE, NO_PROGRAM = 5, 25, 67
 # what a program reads that is called so: directives, lines of LINK or TLINK, or words of its own
 DIRECTIVES = "wlink"
 CALLED = {"wlink": DIRECTIVES, "jwlink": DIRECTIVES, "link": lines.LINK, "tlink": lines.TLINK}
@@ -310,7 +310,7 @@ class Linking:
             return printing.map_of(program) + self.table_of(program)
         lines, details = [], []
         if self.job.map_has_details:
-            details = parts.lines_of(program, self.contents)
+            details = parts.lines_of(program, self.contents, [each.content for each in self.handed])
         if self.job.map_has_lines:
             words = [each.word for each in self.handed]
             lines = line_numbers.paragraphs(program, words, self.contents)
@@ -520,9 +520,7 @@ class Linking:
         """A module that can't be lowered or read has its own fault."""
         self.contents, self.handed = [each.content], [each]
         try:
-            content = lowering.lowered(each.content, self.job.keeps_debug, 0, own)
-            self.contents = [content]
-            module.read(content, 0)
+            taking.taken_modules([each.content], self.job.keeps_debug, [own])
         except Fault as fault:
             raise self.with_words(fault) from None
 
@@ -531,9 +529,11 @@ class Linking:
         that are made."""
         taken = self.taken
         means = meanings(taken, variables, self.key)
-        lowered = lowering.lowered_modules(
-            [each.content for each in taken], [each.word for each in taken],
-            self.job.keeps_debug, means)
+        self.contents, self.handed = [each.content for each in taken], taken
+        try:
+            lowered = taking.taken_modules(self.contents, self.job.keeps_debug, means)
+        except Fault as fault:
+            raise self.with_words(fault) from None
         lowered = self.with_start(lowered)
         lowered = local.with_locals(taken, lowered, self.key)
         behind = made_module(COMMUNAL, communal.communal_module(variables, lowered))
@@ -628,16 +628,12 @@ class Linking:
     def with_words(self, fault):
         """A fault with the word for its module, and its record's place in the module's file.
 
-        A record that isn't one of its type as it is lowered has the fault of one that can't be
-        lowered. Where two publics have one name all such names are told. Of what is too long it
+        Where two publics have one name all such names are told. Of what is too long it
         says by how many bytes.
         """
         if fault.owner is not None:
             owner, linked = self.handed[fault.owner], self.contents[fault.owner]
             place = lowering.own_place(owner.content, linked, fault.place)
-            lowered_to = lowering.record_bytes(linked, fault.place)
-            if fault.number == BODY and lowering.record_bytes(owner.content, place) != lowered_to:
-                fault.number, fault.byte = lowering.BODY, None
             if fault.number == TYPE:
                 fault.kind = owner.content[place]
             if place == 0:

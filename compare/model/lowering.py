@@ -6,7 +6,6 @@ record, and what stands behind the record that ends the module, stays as it is.
 """
 
 from dataclasses import dataclass
-from itertools import repeat
 
 from model.communal import COMMUNAL_VARIABLES, OtherType, extent
 from model.faults import Fault
@@ -578,16 +577,6 @@ def has_wide_start(content):
         for frame in whole_frames(content))
 
 
-def lowered_modules(contents, words, keeps_debug, means=repeat(itself)):
-    """The bytes of modules that are lowered, where `means` has what says what a name means in each.
-
-    A fault is told by the word for its module.
-    """
-    return [
-        lowered(content, keeps_debug, word, own)
-        for content, word, own in zip(contents, words, means)]
-
-
 def is_wide_segment(own, linked):
     """Whether a SEGDEF of 32 bits, which isn't absolute, has bytes as it is linked."""
     first = own.body[0] if own.body else 0
@@ -612,11 +601,6 @@ def record_places(content):
     yield place
 
 
-def record_bytes(content, place):
-    """The record at a place of a module, without its closing byte."""
-    return content[place:place + 2 + int.from_bytes(content[place + 1:place + 3], "little")]
-
-
 def own_place(content, lowered_content, place):
     """The place in a module of a record that has a place in the module as it is linked.
 
@@ -625,6 +609,12 @@ def own_place(content, lowered_content, place):
     if content == lowered_content:
         return place
     number = list(record_places(lowered_content)).index(place)
-    own, linked = len(list(whole_frames(content))), len(list(whole_frames(lowered_content)))
-    number = min(number, own - 1) if own < linked else number
+    own, frames = len(list(whole_frames(content))), list(whole_frames(lowered_content))
+    if own < len(frames):
+        number = min(number - sum(map(goes_on, frames[:number], frames[1:number + 1])), own - 1)
     return list(record_places(content))[number]
+
+
+def goes_on(frame, behind):
+    """Whether external names that were too long for one record go on in the next."""
+    return frame.kind == behind.kind == EXTERNALS and len(frame.body) + len(behind.body) > LONGEST_BODY
