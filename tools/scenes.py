@@ -141,6 +141,15 @@ COUNTING = (
     + record(FIXUPP, b"\xCC\x01\x56\x01") + comment(0x9F, b"EMU") + record(MODEND, b"\0"))
 CUT_PUBLIC = (
     record(THEADR, name(b"cut.asm")) + record(PUBDEF, b"\0\1\6_count\0\0") + record(MODEND, b"\0"))
+# a program of which it tells: two paragraphs of header with an entry, a paragraph of code, and its data
+HELLO_EXE = (struct.pack("<2s15H", b"MZ", 0x35, 1, 1, 2, 0x11, 0xFFFF, 2, 0x100, 0, 0, 0, 0x1C, 0, 1, 0)
+             + bytes.fromhex("B8 0100  8E D8  B4 09  31 D2  CD 21  B8 004C  CD 21") + b"Hi!\r$")
+# its module
+HELLO_ASM = (
+    record(THEADR, name(b"hello.asm")) + names(b"", b"_TEXT", b"CODE", b"_DATA", b"DATA") + segment(0x68, 16, 2, 3)
+    + segment(0x68, 5, 4, 5) + data(bytes.fromhex("B8 0000  8E D8  B4 09  31 D2  CD 21  B8 004C  CD 21"))
+    + record(FIXUPP, b"\xC8\x01\x54\x02") + data(b"Hi!\r$", 2) + record(MODEND, b"\0"))
+STRANGE_VARIABLE = record(THEADR, name(b"main.c")) + record(COMDEF, b"\1x\0\x63\1") + record(MODEND, b"\0")
 # modules of a library, one with a name of another, and one that wants one of them and another name
 LINE, CIRCLE, FILL = (module(b"%s.asm" % each, publics(b"_%s" % each)) for each in (b"line", b"circle", b"fill"))
 OLD_LINE = module(b"oldline.asm", publics(b"_line"))
@@ -304,6 +313,18 @@ SHOWN = {
         'module "COUNT.OBJ" members 1': Printed("doslib show COUNT.OBJ", {"COUNT.OBJ": COUNTING}),
         'module "CUT.OBJ" members 1': Printed("doslib show CUT.OBJ", {"CUT.OBJ": CUT_PUBLIC}),
         "doslib: CUT.OBJ: 6 Body at place 12": Lines((Said("doslib show CUT.OBJ", 1, {"CUT.OBJ": CUT_PUBLIC}),)),
+        'program "HELLO.EXE"': Printed("doslib program HELLO.EXE", {"HELLO.EXE": HELLO_EXE}),
+        "doslib program HELLO.EXE --image HELLO.BIN --at 1000": Run({"HELLO.EXE": HELLO_EXE}),
+        "doslib: HELLO.OBJ: 35 Magic": Lines((
+            Said("doslib program HELLO.OBJ", 1, {"HELLO.OBJ": HELLO}),
+            Said("doslib program HELLO.EXE --image HELLO.BIN --at FFFF", 1, {"HELLO.EXE": HELLO_EXE}),
+            Said("doslib program HELLO.EXE --image roms/HELLO.BIN", 3, {"HELLO.EXE": HELLO_EXE}),
+            Said("doslib program HELLO.EXE --image HELLO.EXE", 2, {"HELLO.EXE": HELLO_EXE}))),
+        'module "HELLO.OBJ" "hello.asm"': Printed(
+            "doslib match HELLO.EXE HELLO.OBJ", {"HELLO.EXE": HELLO_EXE, "HELLO.OBJ": HELLO_ASM}),
+        "doslib: MAIN.OBJ: 54 DataType at place 11": Lines((
+            Said("doslib match HELLO.EXE MAIN.OBJ", 1, {"HELLO.EXE": HELLO_EXE, "MAIN.OBJ": STRANGE_VARIABLE}),
+            Said("doslib match MAIN.OBJ HELLO.OBJ", 1, {"MAIN.OBJ": STRANGE_VARIABLE, "HELLO.OBJ": HELLO_ASM}))),
         'missing "_exit": MAIN.OBJ wants it in the record at 00000025': Printed(
             "doslib names MAIN.OBJ GFX.LIB", {"MAIN.OBJ": DRAWS, "GFX.LIB": library(16, LINE, OLD_LINE)}),
         "$ doslib make GFX.LIB LINE.OBJ CIRCLE.OBJ": Run({
