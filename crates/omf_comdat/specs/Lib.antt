@@ -1,0 +1,4 @@
+pub mod Comdats
+pub mod Fates
+pub mod Told
+pub mod inside
