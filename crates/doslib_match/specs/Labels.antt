@@ -72,6 +72,7 @@ saying_label kind obstacle.TooLong = (52, codes "TooLong")
 saying_label kind obstacle.EasyOmf = (63, codes "EasyOmf")
 saying_label kind obstacle.ImportedName = (64, codes "ImportedName")
 saying_label kind obstacle.FlatFrame = (65, codes "FlatFrame")
+saying_label kind obstacle.LateSegment = (80, codes "LateSegment")
 
 -- a record of this type isn't taken
 abbrev pub obstacle_label : (kind : ℕ) → RecordObstacle → ℕ × List ℕ

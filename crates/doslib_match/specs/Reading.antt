@@ -10,7 +10,11 @@ use Rattle.omf_plain.specs.Plain.{Taking}
 
 -- without what debuggers read, and each name means itself
 abbrev pub as_it_stands : Taking
-as_it_stands = record { keep_debug = false; renaming = record { names = Exact; aliases = [] } }
+as_it_stands = record {
+  keep_debug = false;
+  renaming = record { names = Exact; aliases = [] };
+  comdats = [];
+}
 
 -- why bytes are no module: the place of the first record that isn't taken, and what is in the way of it
 abbrev pub Refusal : Type 0

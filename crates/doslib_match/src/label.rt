@@ -95,6 +95,7 @@ fn saying_label(kind: u8, obstacle: Obstacle) -> (u8, &'static str)
         Obstacle::EasyOmf => (63, "EasyOmf"),
         Obstacle::ImportedName => (64, "ImportedName"),
         Obstacle::FlatFrame => (65, "FlatFrame"),
+        Obstacle::LateSegment => (80, "LateSegment"),
     }
 }
 

@@ -27,11 +27,12 @@ pub struct Told<A: Allocator> {
     pub faults: Vec<u8, A>,
 }
 
-/// The module that bytes begin with, its records of any width taken as the fourteen, without what debuggers read.
+/// The module that bytes begin with, its records of any width taken as the fourteen, without what debuggers read and
+/// without COMDATs.
 fn read_module<A: Allocator + Copy>(alloc: A, bytes: &[u8]) -> Result<Module<A>, PlainModuleFault>
     ensures { Reads bytes.now result }
 {
-    let read = read_plain(alloc, bytes, false, &Renaming::none(Names::Exact))?;
+    let read = read_plain(alloc, bytes, false, &Renaming::none(Names::Exact), &[])?;
     Ok(read.module)
 }
 

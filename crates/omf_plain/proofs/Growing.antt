@@ -1,15 +1,12 @@
 -- One given record more.
-use Rattle.std.proofs.Common.{◌≡◌, ℕ, true, false, List, [], ◌∷◌, ◌++◌, refl, sym, ap, ◌∙◌, Result, Ok, Err, Option}
-use Rattle.std.proofs.Common.{None}
-use Rattle.std.proofs.Common.{Some}
-use Rattle.omf_frame.specs.Frame.{Frame}
+use Rattle.std.proofs.Common.{◌≡◌, ℕ, true, false, List, [], ◌∷◌, ◌++◌, refl, ap, ◌∙◌, Result, Ok, Err}
 use Rattle.omf_library.specs.Records.{ends_module, place_behind}
 use Rattle.omf_record.specs.Record.{Record}
 use Rattle.omf_plain.specs.declared.fault.Obstacle.{Obstacle}
 use Rattle.omf_plain.specs.Modules.{GivenRecord, StandsAt, Stand, behind, AreOpen, AreToEnd, Known, placed, known_after}
 use Rattle.omf_plain.specs.Modules.{known_behind}
-use Rattle.omf_plain.specs.Plain.{Taking, plain}
-use Rattle.omf_plain.specs.Seen.{seen_after}
+use Rattle.omf_plain.specs.Comdats.{says_of, seen_behind}
+use Rattle.omf_plain.specs.Plain.{Taking}
 use Rattle.omf_plain.specs.Step.{◌>>=◌}
 use Rattle.omf_plain.specs.Widths.{either, record_widths}
 use Rattle.omf_plain.proofs.Walks.{first_known, behind_one, one_known}
@@ -48,16 +45,16 @@ known_more t k l (h ∷ gs) g e =
     behind_one t k n h (gs ++ g ∷ []) n-is ∙ known_more t n l gs g rest
 
 -- what is known behind a record that says this
-pub after_said : (t : Taking) (k : Known) (g : GivenRecord) (found : Option Record)
-    → plain t k.seen g.says ≡ Ok found → known_after t k g ≡ Ok (record {
-      seen = seen_after t.keep_debug k.seen g.says;
+pub after_said : (t : Taking) (k : Known) (g : GivenRecord) (found : List Record)
+    → says_of t k.seen g.says ≡ Ok found → known_after t k g ≡ Ok (record {
+      seen = seen_behind t k.seen g.says;
       says = k.says ++ placed g.frame found;
       widths = either k.widths (record_widths t k.seen g.says);
     })
 after_said t k g found e =
     ap
     (λ x. x >>= λ found. Ok (record {
-      seen = seen_after t.keep_debug k.seen g.says;
+      seen = seen_behind t k.seen g.says;
       says = k.says ++ placed g.frame found;
       widths = either k.widths (record_widths t k.seen g.says);
     })) e

@@ -2,11 +2,17 @@ pub mod Each
 pub mod Lengths
 pub mod Counts
 pub mod WideContents
+pub mod Positions
 pub mod Families
+pub mod Saying
+pub mod Checks
+pub mod Adding
+pub mod OneComdat
 pub mod Once
 pub mod Walks
 pub mod Growing
 pub mod Takable
+pub mod ComdatsTakable
 pub mod Framing
 pub mod Taking
 pub mod Telling

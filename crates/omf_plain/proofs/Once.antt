@@ -15,7 +15,9 @@ use Rattle.omf_wide.specs.Body as wide
 use Rattle.omf_wide.specs.Said.{Said}
 use Rattle.omf_wide.specs.declared.fault.WideFault.TheVariants as wide_fault
 use Rattle.omf_wide.proofs.Once as wide_laws
+use Rattle.std.specs.Option.{option_to_list}
 use Rattle.omf_extended.specs.Body as later
+use Rattle.omf_extended.specs.declared.comdats.Comdat as said_comdat
 use Rattle.omf_extended.specs.Said.{Extended, Comdef, Alias, Comdat, Linsym, Bakpat, Nbkpat, Lidata, Vernum, Vendext}
 use Rattle.omf_extended.specs.declared.fault.ExtendedFault.TheVariants as later_fault
 use Rattle.omf_extended.specs.inside.Repeated.{block, block_lawful}
@@ -24,16 +26,19 @@ use Rattle.omf_wide.specs.Communals.{Communal}
 use Rattle.omf_plain.specs.declared.fault.GivenFault.{GivenFault}
 use Rattle.omf_plain.specs.declared.fault.GivenFault.TheVariants as fault
 use Rattle.omf_plain.specs.declared.fault.Obstacle.TheVariants.{OtherType}
+use Rattle.omf_plain.specs.Comdats.{comdat_in, says_of, seen_behind}
 use Rattle.omf_plain.specs.Externals.{plain_communal}
 use Rattle.omf_plain.specs.Given.{Given, Narrow, Wide, Data, Repeated, Later}
 use Rattle.omf_plain.specs.Plain as spec
 use Rattle.omf_plain.specs.Plain.{Taking, externals, plain_later}
 use Rattle.omf_plain.specs.Reading.{is_narrow, is_wide, is_data, is_repeated, is_later, IsGiven, GivenStands, is_memory}
-use Rattle.omf_plain.specs.Seen.{Seen, seen_after}
-use Rattle.omf_plain.specs.Step.{alone, each_of}
-use Rattle.omf_plain.specs.Widths.{record_widths}
+use Rattle.omf_plain.specs.Seen.{Seen}
+use Rattle.omf_plain.specs.Step.{◌>>=◌, alone, each_of}
+use Rattle.omf_plain.specs.Widths.{later_widths, no_widths, record_widths}
 use Rattle.omf_plain.proofs.Families.{narrow_wide, narrow_data, narrow_repeated, narrow_later, wide_data, wide_repeated}
 use Rattle.omf_plain.proofs.Families.{wide_later, data_repeated, data_later, repeated_later}
+use Rattle.omf_plain.proofs.OneComdat.{one_comdat}
+use Rattle.omf_plain.proofs.Saying.{says_plain, seen_plain}
 
 -- ---- by its type
 
@@ -81,29 +86,28 @@ later_only kind body (Later e) k m = (e, refl, m.1)
 
 -- none that is taken has such a type
 abbrev IsOther : ℕ → Type 0
-IsOther kind = (kind ≡ 0xB0 → ⊥) × (kind ≡ 0xB8 → ⊥) × (kind ≡ 0xC6 → ⊥)
+IsOther kind =
+    (kind ≡ 0xB0 → ⊥) × (kind ≡ 0xB8 → ⊥) × (kind ≡ 0xC6 → ⊥) × (kind ≡ 0xC4 → ⊥) × (kind ≡ 0xC5 → ⊥)
 
 not_taken : (t : Taking) (d : Extended) → IsOther (later.kind_of d) → plain_later t d ≡ Err OtherType
 not_taken t (Comdef true cs u) n = absurd (n.1 refl)
 not_taken t (Comdef false cs u) n = absurd (n.0 refl)
 not_taken t (Alias xs) n = absurd (n.2 refl)
+not_taken t (Linsym true c x ls) n = absurd (n.4 refl)
+not_taken t (Linsym false c x ls) n = absurd (n.3 refl)
 not_taken t _ n = refl
 
 comdat_other : (wide : Bool) → IsOther (later.comdat_kind wide)
-comdat_other true = (λ e. omega (arith, e), λ e. omega (arith, e), λ e. omega (arith, e))
-comdat_other false = (λ e. omega (arith, e), λ e. omega (arith, e), λ e. omega (arith, e))
-
-linsym_other : (wide : Bool) → IsOther (later.linsym_kind wide)
-linsym_other true = (λ e. omega (arith, e), λ e. omega (arith, e), λ e. omega (arith, e))
-linsym_other false = (λ e. omega (arith, e), λ e. omega (arith, e), λ e. omega (arith, e))
+comdat_other true = (λ e. omega (arith, e), λ e. omega (arith, e), λ e. omega (arith, e), λ e. omega (arith, e), λ e. omega (arith, e))
+comdat_other false = (λ e. omega (arith, e), λ e. omega (arith, e), λ e. omega (arith, e), λ e. omega (arith, e), λ e. omega (arith, e))
 
 bakpat_other : (wide : Bool) → IsOther (later.bakpat_kind wide)
-bakpat_other true = (λ e. omega (arith, e), λ e. omega (arith, e), λ e. omega (arith, e))
-bakpat_other false = (λ e. omega (arith, e), λ e. omega (arith, e), λ e. omega (arith, e))
+bakpat_other true = (λ e. omega (arith, e), λ e. omega (arith, e), λ e. omega (arith, e), λ e. omega (arith, e), λ e. omega (arith, e))
+bakpat_other false = (λ e. omega (arith, e), λ e. omega (arith, e), λ e. omega (arith, e), λ e. omega (arith, e), λ e. omega (arith, e))
 
 nbkpat_other : (wide : Bool) → IsOther (later.nbkpat_kind wide)
-nbkpat_other true = (λ e. omega (arith, e), λ e. omega (arith, e), λ e. omega (arith, e))
-nbkpat_other false = (λ e. omega (arith, e), λ e. omega (arith, e), λ e. omega (arith, e))
+nbkpat_other true = (λ e. omega (arith, e), λ e. omega (arith, e), λ e. omega (arith, e), λ e. omega (arith, e), λ e. omega (arith, e))
+nbkpat_other false = (λ e. omega (arith, e), λ e. omega (arith, e), λ e. omega (arith, e), λ e. omega (arith, e), λ e. omega (arith, e))
 
 with_other : (t : Taking) (d : Extended) (kind : ℕ) → later.kind_of d ≡ kind → IsOther kind
     → Err OtherType ≡ plain_later t d
@@ -124,48 +128,120 @@ with_alias : (t : Taking) (d : Extended) → later.kind_of d ≡ 0xC6 → plain_
 with_alias t (Alias xs) e = refl
 with_alias t d e = absurd (grind (arith, e))
 
+with_linsym : (t : Taking) (wide : Bool) (d : Extended) → later.kind_of d ≡ later.linsym_kind wide
+    → plain_later t d ≡ Ok None
+with_linsym t wide (Linsym w c n ls) e = refl
+with_linsym t wide d e = absurd (grind (arith, e))
+
 later_same : (kind : ℕ) (text : List ℕ) (t : Taking) (e d : Extended) → later.BodyOf kind e text
     → later.BodyOf kind d text → plain_later t e ≡ plain_later t d
 later_same kind text t (Comdef local cs u) d l m = with_comdef t local cs u d text (m.0 ∙ sym l.0) l.1 m.1
 later_same kind text t (Alias xs) d l m = sym (with_alias t d (m.0 ∙ sym l.0))
 later_same kind text t (Comdat wide c b) d l m =
     with_other t d (later.comdat_kind wide) (m.0 ∙ sym l.0) (comdat_other wide)
-later_same kind text t (Linsym wide c n ls) d l m =
-    with_other t d (later.linsym_kind wide) (m.0 ∙ sym l.0) (linsym_other wide)
+later_same kind text t (Linsym wide c n ls) d l m = sym (with_linsym t wide d (m.0 ∙ sym l.0))
 later_same kind text t (Bakpat wide s o ps) d l m =
     with_other t d (later.bakpat_kind wide) (m.0 ∙ sym l.0) (bakpat_other wide)
 later_same kind text t (Nbkpat wide o n ps) d l m =
     with_other t d (later.nbkpat_kind wide) (m.0 ∙ sym l.0) (nbkpat_other wide)
 later_same kind text t (Lidata s o c) d l m =
-    with_other t d 0xA3 (m.0 ∙ sym l.0) (λ e. omega (arith, e), λ e. omega (arith, e), λ e. omega (arith, e))
+    with_other t d 0xA3 (m.0 ∙ sym l.0) (λ e. omega (arith, e), λ e. omega (arith, e), λ e. omega (arith, e), λ e. omega (arith, e), λ e. omega (arith, e))
 later_same kind text t (Vernum x) d l m =
-    with_other t d 0xCC (m.0 ∙ sym l.0) (λ e. omega (arith, e), λ e. omega (arith, e), λ e. omega (arith, e))
+    with_other t d 0xCC (m.0 ∙ sym l.0) (λ e. omega (arith, e), λ e. omega (arith, e), λ e. omega (arith, e), λ e. omega (arith, e), λ e. omega (arith, e))
 later_same kind text t (Vendext v b) d l m =
-    with_other t d 0xCE (m.0 ∙ sym l.0) (λ e. omega (arith, e), λ e. omega (arith, e), λ e. omega (arith, e))
+    with_other t d 0xCE (m.0 ∙ sym l.0) (λ e. omega (arith, e), λ e. omega (arith, e), λ e. omega (arith, e), λ e. omega (arith, e), λ e. omega (arith, e))
 
 -- ---- what is taken
 
 -- a link takes the same of both
 pub record Same (g h : Given) : Type 0 where
-  pub plain : (t : Taking) (seen : Seen) → spec.plain t seen g ≡ spec.plain t seen h
-  pub seen : (keep_debug : Bool) (seen : Seen) → seen_after keep_debug seen g ≡ seen_after keep_debug seen h
+  pub says : (t : Taking) (seen : Seen) → says_of t seen g ≡ says_of t seen h
+  pub seen : (t : Taking) (seen : Seen) → seen_behind t seen g ≡ seen_behind t seen h
   pub widths : (t : Taking) (seen : Seen) → record_widths t seen g ≡ record_widths t seen h
 
 equal : (g h : Given) → h ≡ g → Same g h
 equal g h e = record {
-  plain = λ t seen. ap (spec.plain t seen) (sym e);
-  seen = λ keep_debug seen. ap (seen_after keep_debug seen) (sym e);
+  says = λ t seen. ap (says_of t seen) (sym e);
+  seen = λ t seen. ap (seen_behind t seen) (sym e);
   widths = λ t seen. ap (record_widths t seen) (sym e);
 }
 
+abbrev IsNoComdat : Extended → Type 0
+IsNoComdat (Comdat wide c b) = ⊥
+IsNoComdat _ = Unit {0}
+
+none_in : (d : Extended) → IsNoComdat d → comdat_in (Later d) ≡ None
+none_in (Comdat wide c b) n = absurd n
+none_in _ n = refl
+
+no_widths_of : (t : Taking) (seen : Seen) (d : Extended) → IsNoComdat d → later_widths t seen d ≡ no_widths
+no_widths_of t seen (Comdat wide c b) n = absurd n
+no_widths_of t seen _ n = refl
+
+-- one of another type than COMDATs is none
+by_kind : (d : Extended) → (later.kind_of d ≡ 0xC2 → ⊥) × (later.kind_of d ≡ 0xC3 → ⊥) → IsNoComdat d
+by_kind (Comdat true c b) n = absurd (n.1 refl)
+by_kind (Comdat false c b) n = absurd (n.0 refl)
+by_kind _ n = tt
+
+kinds : (e : Extended) → IsNoComdat e → (later.kind_of e ≡ 0xC2 → ⊥) × (later.kind_of e ≡ 0xC3 → ⊥)
+kinds (Comdat wide c b) n = absurd n
+kinds (Comdef true cs u) n = (λ e. omega (arith, e), λ e. omega (arith, e))
+kinds (Comdef false cs u) n = (λ e. omega (arith, e), λ e. omega (arith, e))
+kinds (Alias xs) n = (λ e. omega (arith, e), λ e. omega (arith, e))
+kinds (Linsym true c x ls) n = (λ e. omega (arith, e), λ e. omega (arith, e))
+kinds (Linsym false c x ls) n = (λ e. omega (arith, e), λ e. omega (arith, e))
+kinds (Bakpat true s o ps) n = (λ e. omega (arith, e), λ e. omega (arith, e))
+kinds (Bakpat false s o ps) n = (λ e. omega (arith, e), λ e. omega (arith, e))
+kinds (Nbkpat true o x ps) n = (λ e. omega (arith, e), λ e. omega (arith, e))
+kinds (Nbkpat false o x ps) n = (λ e. omega (arith, e), λ e. omega (arith, e))
+kinds (Lidata s o c) n = (λ e. omega (arith, e), λ e. omega (arith, e))
+kinds (Vernum x) n = (λ e. omega (arith, e), λ e. omega (arith, e))
+kinds (Vendext v b) n = (λ e. omega (arith, e), λ e. omega (arith, e))
+
+plain_same : (kind : ℕ) (body : List ℕ) (t : Taking) (seen : Seen) (e d : Extended) → later.BodyOf kind e body
+    → later.BodyOf kind d body → spec.plain t seen (Later e) ≡ spec.plain t seen (Later d)
+unfolding spec.plain
+plain_same kind body t seen e d l m = later_same kind body t e d l m
+
+no_comdats : (kind : ℕ) (body : List ℕ) (e d : Extended) → IsNoComdat e → later.BodyOf kind e body
+    → later.BodyOf kind d body → Same (Later e) (Later d)
+no_comdats kind body e d n l m =
+    let same : later.kind_of d ≡ later.kind_of e = m.0 ∙ sym l.0 in
+    let no = kinds e n in
+    let o = by_kind d ((λ x. no.0 (sym same ∙ x)), (λ x. no.1 (sym same ∙ x))) in
+    record {
+      says = λ t seen.
+          says_plain t seen (Later e) (none_in e n)
+          ∙ ap (λ r. r >>= λ found. Ok (option_to_list found)) (plain_same kind body t seen e d l m)
+          ∙ sym (says_plain t seen (Later d) (none_in d o));
+      seen = λ t seen. seen_plain t seen (Later e) (none_in e n) ∙ sym (seen_plain t seen (Later d) (none_in d o));
+      widths = λ t seen. no_widths_of t seen e n ∙ sym (no_widths_of t seen d o);
+    }
+
+-- a COMDAT and what has its type are one
+same_comdat : (wide : Bool) (c : said_comdat.Comdat) (a body : List ℕ) (d : Extended)
+    → later.kind_of d ≡ later.comdat_kind wide → later.Body (Comdat wide c a) body → later.Body d body
+    → d ≡ Comdat wide c a
+same_comdat true c a body (Comdat true d b) e l m =
+    ap (λ (x : said_comdat.Comdat × List ℕ). Comdat true x.0 x.1) (one_comdat true d c b a body m l)
+same_comdat false c a body (Comdat false d b) e l m =
+    ap (λ (x : said_comdat.Comdat × List ℕ). Comdat false x.0 x.1) (one_comdat false d c b a body m l)
+same_comdat wide c a body d e l m = absurd (grind (arith, e))
+
 of_later : (kind : ℕ) (body : List ℕ) (e d : Extended) → later.BodyOf kind e body → later.BodyOf kind d body
     → Same (Later e) (Later d)
-unfolding spec.plain
-of_later kind body e d l m = record {
-  plain = λ t seen. later_same kind body t e d l m;
-  seen = λ keep_debug seen. refl;
-  widths = λ t seen. refl;
-}
+of_later kind body (Comdat wide c a) d l m =
+    equal (Later (Comdat wide c a)) (Later d)
+    (ap (λ x. Later x) (same_comdat wide c a body d (m.0 ∙ sym l.0) l.1 m.1))
+of_later kind body (Comdef local cs u) d l m = no_comdats kind body (Comdef local cs u) d tt l m
+of_later kind body (Alias xs) d l m = no_comdats kind body (Alias xs) d tt l m
+of_later kind body (Linsym wide c n ls) d l m = no_comdats kind body (Linsym wide c n ls) d tt l m
+of_later kind body (Bakpat wide s o ps) d l m = no_comdats kind body (Bakpat wide s o ps) d tt l m
+of_later kind body (Nbkpat wide o n ps) d l m = no_comdats kind body (Nbkpat wide o n ps) d tt l m
+of_later kind body (Lidata s o c) d l m = no_comdats kind body (Lidata s o c) d tt l m
+of_later kind body (Vernum x) d l m = no_comdats kind body (Vernum x) d tt l m
+of_later kind body (Vendext v b) d l m = no_comdats kind body (Vendext v b) d tt l m
 
 some : (kind : ℕ) → is_wide kind ≡ true → 0 < kind
 some zero e = absurd cc

@@ -1,7 +1,7 @@
 -- The records that are taken are such as a module may hold.
-use Rattle.std.proofs.Common.{◌≡◌, ℕ, ◌≤◌, Bool, true, false, if◌then◌else◌, List, [], ◌∷◌, length, map, refl, sym, ap}
+use Rattle.std.proofs.Common.{◌≡◌, ℕ, ◌≤◌, Bool, true, false, if◌then◌else◌, List, [], ◌∷◌, length, refl, ap}
 use Rattle.std.proofs.Common.{subst}
-use Rattle.std.proofs.Common.{◌∙◌, Result, Ok, Err, Option, None, Some, arith}
+use Rattle.std.proofs.Common.{Result, Ok, Err, Option, None, Some, arith}
 use Rattle.std.specs.Prelude.{nat_lt, ◌&&◌}
 use Rattle.std.specs.List.{AllByRecursion}
 use Rattle.std.specs.Option.{ok_or}
@@ -62,7 +62,7 @@ extdef_takable : (local : Bool) (es : List External) → AllShort es → IsTakab
 unfolding data_len
 extdef_takable local es h = record { names = h; short = omega arith }
 
-pubdef_takable : (local : Bool) (base : PublicBase) (ps : List Public)
+pub pubdef_takable : (local : Bool) (base : PublicBase) (ps : List Public)
     → AllByRecursion (λ (p : Public). IsShort p.name) ps → IsTakable (Pubdef local base ps)
 unfolding data_len
 pubdef_takable local base ps h = record { names = h; short = omega arith }
@@ -83,11 +83,11 @@ modend_takable : (main : Bool) (start : Option Reference) → IsTakable (Modend 
 unfolding data_len
 modend_takable main start = record { names = tt; short = omega arith }
 
-segdef_takable : (segment : SegmentDefinition) → IsTakable (Segdef segment)
+pub segdef_takable : (segment : SegmentDefinition) → IsTakable (Segdef segment)
 unfolding data_len
 segdef_takable segment = record { names = tt; short = omega arith }
 
-ledata_takable : (segment offset : ℕ) (bytes : List ℕ) → length bytes ≤ 65534 → IsTakable (Ledata segment offset bytes)
+pub ledata_takable : (segment offset : ℕ) (bytes : List ℕ) → length bytes ≤ 65534 → IsTakable (Ledata segment offset bytes)
 unfolding data_len
 ledata_takable segment offset bytes le = record { names = tt; short = le }
 
@@ -305,7 +305,7 @@ said_takable t seen (said.Cextdef names) body y l le e =
     externals_takable false (each_of (λ e. alone (plain_listed t.renaming seen.names e)) names) y
     (λ es is. all_short (λ a. Unit {0}) (plain_listed t.renaming seen.names)
     (listed_short t.renaming seen.names) names es (none_asked names) is) e
-said_takable t seen (said.Segdef is_wide s) body y l le e = go (is_kept_out t.keep_debug seen.names s.class) e
+said_takable t seen (said.Segdef is_wide s) body y l le e = late (nat_lt 0 seen.opened) e
   where
     made : (r : Result SegmentDefinition Obstacle)
         → (r >>= λ segment. (let u : Taken = Ok (Some (Segdef segment)) in u)) ≡ Ok (Some y) → IsTakable y
@@ -318,6 +318,13 @@ said_takable t seen (said.Segdef is_wide s) body y l le e = go (is_kept_out t.ke
     go true e = same_record (Segdef (nothing_of s)) y (segdef_takable (nothing_of s)) e
     go false e = made (plain_segment is_wide s) e
 
+    late : (b : Bool)
+        → (let u : Taken = if b then Err obstacle.LateSegment
+        else if is_kept_out t.keep_debug seen.names s.class then Ok (Some (Segdef (nothing_of s)))
+        else (plain_segment is_wide s >>= λ segment. Ok (Some (Segdef segment))) in u) ≡ Ok (Some y) → IsTakable y
+    late true e = absurd (no_record obstacle.LateSegment y e)
+    late false e = go (is_kept_out t.keep_debug seen.names s.class) e
+
 later_takable : (t : Taking) (x : Extended) (body : List ℕ) (y : Record) → later.Body x body
     → plain_later t x ≡ Ok (Some y) → IsTakable y
 unfolding later.Body
@@ -327,7 +334,7 @@ later_takable t (Comdef local cs u) body y l e =
     (λ c e h is. communal_short t.renaming local c c.extent e h is) cs es (communals_short cs l.1.front l.1.first) is) e
 later_takable t (Alias aliases) body y l e = absurd (nothing y e)
 later_takable t (later_said.Comdat _ _ _) body y l e = absurd (no_record obstacle.OtherType y e)
-later_takable t (later_said.Linsym _ _ _ _) body y l e = absurd (no_record obstacle.OtherType y e)
+later_takable t (later_said.Linsym _ _ _ _) body y l e = absurd (nothing y e)
 later_takable t (later_said.Bakpat _ _ _ _) body y l e = absurd (no_record obstacle.OtherType y e)
 later_takable t (later_said.Nbkpat _ _ _ _) body y l e = absurd (no_record obstacle.OtherType y e)
 later_takable t (later_said.Lidata _ _ _) body y l e = absurd (no_record obstacle.OtherType y e)

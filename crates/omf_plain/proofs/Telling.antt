@@ -1,6 +1,7 @@
 -- What is answered for the bytes of a module.
-use Rattle.std.proofs.Common.{◌≡◌, ℕ, List, [], ◌∷◌, ◌++◌, refl, sym, subst, ◌∙◌, Ok, Err, Some, drop}
+use Rattle.std.proofs.Common.{◌≡◌, ℕ, List, ◌++◌, sym, subst, ◌∙◌, Ok, Err, Some, drop}
 use Rattle.omf_frame.specs.Frame.{Frame, frame_at}
+use Rattle.omf_module.specs.Faults.{first_fault}
 use Rattle.omf_plain.specs.declared.fault.PlainModuleFault.{PlainModuleFault}
 use Rattle.omf_plain.specs.declared.fault.PlainModuleFault.TheVariants.{Memory, Record}
 use Rattle.omf_plain.specs.declared.fault.RecordObstacle.{RecordObstacle}
@@ -8,6 +9,7 @@ use Rattle.omf_plain.specs.declared.fault.RecordObstacle.TheVariants as why
 use Rattle.omf_plain.specs.declared.modules.Reading.{Reading}
 use Rattle.omf_plain.specs.ModuleAnswer.{ModuleAnswers}
 use Rattle.omf_plain.specs.Modules.{GivenRecord, Stand, behind, AreOpen, Known, AreTaken, RefusedAt, IsPlainFault}
+use Rattle.omf_plain.specs.Modules.{placed}
 use Rattle.omf_plain.specs.Plain.{Taking}
 use Rattle.omf_plain.specs.inside.Walking.{FrameAnswers, Has, RefusedFrame, TakesFrame}
 use Rattle.omf_plain.proofs.Walks.{no_module}
@@ -41,15 +43,18 @@ frame_refused A t bytes gs k place (Record p (why.Check c)) a o at h = absurd h
 
 -- where what the frame at the place holds isn't taken
 refused_there : (t : Taking) (bytes : List ℕ) (k : Known) (place : ℕ) (f : Frame) (obstacle : RecordObstacle)
-    → frame_at place (drop place bytes) ≡ Ok (Some f) → RefusedFrame t k f obstacle
+    → frame_at place (drop place bytes) ≡ Ok (Some f) → f.place ≡ place → RefusedFrame t k f obstacle
     → RefusedAt t bytes k place obstacle
-refused_there t bytes k place f (why.Framing e) there h = absurd h
-refused_there t bytes k place f why.NoEnd there h = absurd h
-refused_there t bytes k place f (why.Body e) there h = (f, there, h)
-refused_there t bytes k place f (why.Obstacle o) there (given, l, is) =
+refused_there t bytes k place f (why.Framing e) there here h = absurd h
+refused_there t bytes k place f why.NoEnd there here h = absurd h
+refused_there t bytes k place f (why.Body e) there here h = (f, there, h)
+refused_there t bytes k place f (why.Obstacle o) there here (given, l, is) =
     (record { frame = f; says = given }, (there, l), is)
-refused_there t bytes k place f (why.Check c) there (given, l, behind) =
-    (record { frame = f; says = given }, (there, l), behind)
+refused_there t bytes k place f (why.Check c) there here (given, l, (rs, is, check)) = (
+  record { frame = f; says = given },
+  (there, l),
+  (rs, is, subst (λ p. first_fault (k.says ++ placed f rs) ≡ Some (p, c)) here check),
+)
 
 pub take_refused : (A X : Type 0) (t : Taking) (bytes : List ℕ) (gs : List GivenRecord) (k : Known) (place : ℕ)
     (f : Frame) (new : Reading A) (e : PlainModuleFault) → AreTaken t bytes gs k → AreOpen gs → place ≡ behind 0 gs
@@ -59,4 +64,4 @@ take_refused A X t bytes gs k place f new Memory a o at there here h = tt
 take_refused A X t bytes gs k place f new (Record p obstacle) a o at there here (is, h) =
     let same = is ∙ here in
     told A t bytes gs k p obstacle a o (same ∙ at)
-    (subst (λ n. RefusedAt t bytes k n obstacle) (sym same) (refused_there t bytes k place f obstacle there h))
+    (subst (λ n. RefusedAt t bytes k n obstacle) (sym same) (refused_there t bytes k place f obstacle there here h))

@@ -5,26 +5,27 @@ use Rattle.std.proofs.Common.{Option, None, Some, drop, append_assoc, append-nil
 use Rattle.omf_frame.specs.Frame.{Frame, frame_at}
 use Rattle.omf_frame.specs.declared.reading.FramingFault.{FramingFault}
 use Rattle.omf_library.specs.Records.{ends_module, place_behind}
-use Rattle.omf_module.specs.Faults.{fault, first_fault}
+use Rattle.omf_module.specs.Faults.{first_fault}
 use Rattle.omf_module.specs.Module.{Module}
 use Rattle.omf_module.specs.Tables.{module_of}
 use Rattle.omf_module.specs.declared.fault.CheckFault.{CheckFault}
-use Rattle.omf_module.proofs.Whole.{no_fault_at}
 use Rattle.omf_record.specs.Record.{Record}
 use Rattle.omf_record.specs.Records.{Placed}
 use Rattle.omf_plain.specs.declared.fault.Obstacle.{Obstacle}
 use Rattle.omf_plain.specs.declared.fault.RecordObstacle.{RecordObstacle}
 use Rattle.omf_plain.specs.declared.fault.RecordObstacle.TheVariants as why
 use Rattle.omf_plain.specs.declared.widths.Widths.{Widths}
+use Rattle.omf_plain.specs.Comdats.{says_of, seen_behind}
 use Rattle.omf_plain.specs.Given.{Given}
 use Rattle.omf_plain.specs.Modules.{GivenRecord, StandsAt, Stand, behind, AreOpen, AreToEnd, Known, nothing_known}
 use Rattle.omf_plain.specs.Modules.{placed}
-use Rattle.omf_plain.specs.Modules.{known_after, known_behind, AreTaken, IsPlainModule, RefusedAt, IsPlainFault}
-use Rattle.omf_plain.specs.Plain.{Taking, plain}
+use Rattle.omf_plain.specs.Modules.{known_after, known_behind, IsPlainModule, RefusedAt, IsPlainFault}
+use Rattle.omf_plain.specs.Plain.{Taking}
 use Rattle.omf_plain.specs.Reading.{IsGiven}
-use Rattle.omf_plain.specs.Seen.{Seen, seen_after}
+use Rattle.omf_plain.specs.Seen.{Seen}
 use Rattle.omf_plain.specs.Step.{◌>>=◌}
 use Rattle.omf_plain.specs.Widths.{either, record_widths}
+use Rattle.omf_plain.proofs.Checks.{fault_stays}
 use Rattle.omf_plain.proofs.Once.{Same, one_given, none_given}
 
 -- ---- answers that can't be two
@@ -46,7 +47,7 @@ one_known x k l d e =
 no_known : (x : Result Known Obstacle) (k : Known) (o : Obstacle) → x ≡ Ok k → x ≡ Err o → ⊥
 no_known x k o d e = cc
 
-no_check : (x : Option CheckFault) (c : CheckFault) → x ≡ None → x ≡ Some c → ⊥
+no_check : (x : Option (ℕ × CheckFault)) (c : ℕ × CheckFault) → x ≡ None → x ≡ Some c → ⊥
 no_check x c d e = cc
 
 both_ends : (b : Bool) → b ≡ true → b ≡ false → ⊥
@@ -55,16 +56,16 @@ both_ends b d e = cc
 -- ---- one record more
 
 -- what is known behind a frame, by what a link takes of it
-abbrev next_of : Known → Frame → Result (Option Record) Obstacle → Seen → Widths → Result Known Obstacle
+abbrev next_of : Known → Frame → Result (List Record) Obstacle → Seen → Widths → Result Known Obstacle
 next_of k f said seen widths =
     said >>= λ found. Ok (record { seen = seen; says = k.says ++ placed f found; widths = either k.widths widths })
 
 step_same : (t : Taking) (k : Known) (f : Frame) (a b : Given) → Same a b
     → known_after t k (record { frame = f; says = a }) ≡ known_after t k (record { frame = f; says = b })
 step_same t k f a b same =
-    ap (λ x. next_of k f x (seen_after t.keep_debug k.seen a) (record_widths t k.seen a)) (same.plain t k.seen)
-    ∙ ap (λ x. next_of k f (plain t k.seen b) x (record_widths t k.seen a)) (same.seen t.keep_debug k.seen)
-    ∙ ap (λ x. next_of k f (plain t k.seen b) (seen_after t.keep_debug k.seen b) x) (same.widths t k.seen)
+    ap (λ x. next_of k f x (seen_behind t k.seen a) (record_widths t k.seen a)) (same.says t k.seen)
+    ∙ ap (λ x. next_of k f (says_of t k.seen b) x (record_widths t k.seen a)) (same.seen t k.seen)
+    ∙ ap (λ x. next_of k f (says_of t k.seen b) (seen_behind t k.seen b) x) (same.widths t k.seen)
 
 -- two records at one place
 here : (bytes : List ℕ) (place : ℕ) (g h : GivenRecord) → StandsAt bytes place g → StandsAt bytes place h
@@ -169,20 +170,20 @@ says_more t k l (g ∷ gs) e =
     )
   where
     one_more : (n : Known) → known_after t k g ≡ Ok n → (said : List Placed) × (n.says ≡ k.says ++ said)
-    one_more n is = go (plain t k.seen g.says) refl
+    one_more n is = go (says_of t k.seen g.says) refl
       where
-        go : (r : Result (Option Record) Obstacle) → plain t k.seen g.says ≡ r
+        go : (r : Result (List Record) Obstacle) → says_of t k.seen g.says ≡ r
             → (said : List Placed) × (n.says ≡ k.says ++ said)
         go (Ok found) e =
             let made =
-            ap (λ x. next_of k g.frame x (seen_after t.keep_debug k.seen g.says) (record_widths t k.seen g.says)) e in (
+            ap (λ x. next_of k g.frame x (seen_behind t k.seen g.says) (record_widths t k.seen g.says)) e in (
               placed g.frame found,
               ap (λ (x : Known). x.says) (sym (one_known (known_after t k g) _ n made is)),
             )
         go (Err o) e =
             absurd
             (no_known (known_after t k g) n o is
-            (ap (λ x. next_of k g.frame x (seen_after t.keep_debug k.seen g.says) (record_widths t k.seen g.says)) e))
+            (ap (λ x. next_of k g.frame x (seen_behind t k.seen g.says) (record_widths t k.seen g.says)) e))
 
 refused_none : (t : Taking) (bytes : List ℕ) (place : ℕ) (k l : Known) (h : GivenRecord) (hs : List GivenRecord)
     (obstacle : RecordObstacle) → RefusedAt t bytes k place obstacle → StandsAt bytes place h
@@ -197,21 +198,20 @@ refused_none t bytes place k l h hs (why.Body f) (frame, at, stands) s d sound =
 refused_none t bytes place k l h hs (why.Obstacle o) (g, at, is) s d sound =
     let (n, n-is, rest) = first_known t k l h hs d in
     let made =
-    ap (λ x. next_of k g.frame x (seen_after t.keep_debug k.seen g.says) (record_widths t k.seen g.says)) is in
+    ap (λ x. next_of k g.frame x (seen_behind t k.seen g.says) (record_widths t k.seen g.says)) is in
     no_known (known_after t k h) n o n-is (sym (after_same t bytes place k g h at s) ∙ made)
 refused_none t bytes place k l h hs (why.Check c) (g, at, behind) s d sound =
-    let (r, is, check) = behind in
+    let (rs, is, check) = behind in
     let (n, n-is, rest) = first_known t k l h hs d in
     let made =
-    ap (λ x. next_of k g.frame x (seen_after t.keep_debug k.seen g.says) (record_widths t k.seen g.says)) is in
-    let p : Placed = record { place = g.frame.place; body = g.frame.body; says = r } in
-    let n-says : n.says ≡ k.says ++ p ∷ [] =
+    ap (λ x. next_of k g.frame x (seen_behind t k.seen g.says) (record_widths t k.seen g.says)) is in
+    let n-says : n.says ≡ k.says ++ placed g.frame rs =
     ap (λ (x : Known). x.says)
     (sym (one_known (known_after t k h) _ n (sym (after_same t bytes place k g h at s) ∙ made) n-is)) in
     let (more, more-is) = says_more t n l hs rest in
-    let l-says : l.says ≡ k.says ++ p ∷ more =
-    more-is ∙ ap (λ xs. xs ++ more) n-says ∙ append_assoc k.says (p ∷ []) more in
-    no_check (fault k.says r) c (no_fault_at k.says more p (ap first_fault (sym l-says) ∙ sound)) check
+    let l-says : l.says ≡ (k.says ++ placed g.frame rs) ++ more = more-is ∙ ap (λ xs. xs ++ more) n-says in
+    no_check (first_fault l.says) (place, c) sound
+    (ap first_fault l-says ∙ fault_stays (k.says ++ placed g.frame rs) more (place, c) check)
 
 -- bytes with a fault begin with no module
 pub no_module : (t : Taking) (bytes : List ℕ) (place : ℕ) (obstacle : RecordObstacle) (m : Module) (w : Widths)

@@ -8,6 +8,7 @@ pub mod Fixups
 pub mod Seen
 pub mod Plain
 pub mod View
+pub mod Comdats
 pub mod Reading
 pub mod Widths
 pub mod Modules

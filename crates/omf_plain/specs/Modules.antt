@@ -1,24 +1,24 @@
 -- Modules as they are given: their records, of any width, one behind the other in bytes, and what these say as the
 -- fourteen.
-use Rattle.std.specs.Prelude.{◌≡◌, ℕ, Bool, true, false, List, [], ◌∷◌, ◌++◌, drop, None, Some, Ok, Err}
-use Rattle.std.specs.declared.option.Option.{Option}
+use Rattle.std.specs.Prelude.{◌≡◌, ℕ, true, false, List, [], ◌∷◌, ◌++◌, drop, map, None, Some, Ok, Err}
 use Rattle.std.specs.declared.result.Result.{Result}
 use Rattle.std.specs.List.{AllByRecursion}
 use Rattle.omf_frame.specs.Frame.{Frame, frame_at}
 use Rattle.omf_library.specs.Records.{ends_module, place_behind}
-use Rattle.omf_module.specs.Faults.{fault, first_fault}
+use Rattle.omf_module.specs.Faults.{first_fault}
 use Rattle.omf_module.specs.Module.{Module}
 use Rattle.omf_module.specs.Tables.{module_of}
 use Rattle.omf_record.specs.Record.{Record}
 use Rattle.omf_record.specs.Records.{Placed}
+use Rattle.omf_plain.specs.Comdats.{says_of, seen_behind}
 use Rattle.omf_plain.specs.declared.fault.Obstacle.{Obstacle}
 use Rattle.omf_plain.specs.declared.fault.RecordObstacle.{RecordObstacle}
 use Rattle.omf_plain.specs.declared.fault.RecordObstacle.TheVariants as why
 use Rattle.omf_plain.specs.declared.widths.Widths.{Widths}
 use Rattle.omf_plain.specs.Given.{Given}
-use Rattle.omf_plain.specs.Plain.{Taking, plain}
+use Rattle.omf_plain.specs.Plain.{Taking}
 use Rattle.omf_plain.specs.Reading.{IsGiven, IsGivenFault}
-use Rattle.omf_plain.specs.Seen.{Seen, nothing_seen, seen_after}
+use Rattle.omf_plain.specs.Seen.{Seen, nothing_seen}
 use Rattle.omf_plain.specs.Step.{◌>>=◌}
 use Rattle.omf_plain.specs.Widths.{no_widths, either, record_widths}
 
@@ -66,15 +66,14 @@ pub record Known : Type 0 where
 abbrev pub nothing_known : Known
 nothing_known = record { seen = nothing_seen; says = []; widths = no_widths }
 
--- one of the fourteen, or none, at the place of a frame
-abbrev pub placed : Frame → Option Record → List Placed
-placed f None = []
-placed f (Some says) = record { place = f.place; body = f.body; says = says } ∷ []
+-- records of the fourteen, all at the place of a frame
+abbrev pub placed : Frame → List Record → List Placed
+placed f rs = map (λ says. record { place = f.place; body = f.body; says = says }) rs
 
 -- behind one more, or what is in the way of it
 abbrev pub known_after : Taking → Known → GivenRecord → Result Known Obstacle
-known_after t k g = plain t k.seen g.says >>= λ found. Ok (record {
-  seen = seen_after t.keep_debug k.seen g.says;
+known_after t k g = says_of t k.seen g.says >>= λ found. Ok (record {
+  seen = seen_behind t k.seen g.says;
   says = k.says ++ placed g.frame found;
   widths = either k.widths (record_widths t k.seen g.says);
 })
@@ -99,17 +98,18 @@ IsPlainModule t bytes m w =
     × (w ≡ k.widths)
 
 -- Why the record at the place isn't taken, behind which this is known: no frame begins there; it says nothing;
--- something of it has no saying in the fourteen; or a check refuses it.
+-- something of it has no saying in the fourteen; or a check refuses a record that it is there, the first of them.
 abbrev pub RefusedAt : Taking → (bytes : List ℕ) → Known → (place : ℕ) → RecordObstacle → Type 0
 RefusedAt t bytes k place (why.Framing e) = frame_at place (drop place bytes) ≡ Err e
 RefusedAt t bytes k place why.NoEnd = frame_at place (drop place bytes) ≡ Ok None
 RefusedAt t bytes k place (why.Body f) =
     (frame : Frame) × (frame_at place (drop place bytes) ≡ Ok (Some frame)) × IsGivenFault frame.kind frame.body f
 RefusedAt t bytes k place (why.Obstacle o) =
-    (g : GivenRecord) × StandsAt bytes place g × (plain t k.seen g.says ≡ Err o)
+    (g : GivenRecord) × StandsAt bytes place g × (says_of t k.seen g.says ≡ Err o)
 RefusedAt t bytes k place (why.Check c) =
     (g : GivenRecord) × StandsAt bytes place g
-    × ((r : Record) × (plain t k.seen g.says ≡ Ok (Some r)) × (fault k.says r ≡ Some c))
+    × ((rs : List Record) × (says_of t k.seen g.says ≡ Ok rs)
+    × (first_fault (k.says ++ placed g.frame rs) ≡ Some (place, c)))
 
 -- The first fault of reading the bytes as a module, and its place: records that are taken, none of which is MODEND, and
 -- behind them one that isn't.

@@ -4,6 +4,7 @@ use Rattle.std.specs.Prelude.{Err}
 use Rattle.std.specs.declared.option.Option.{Option}
 use Rattle.std.specs.declared.result.Result.{Result}
 use Rattle.omf_alias.specs.Meaning.{Renaming}
+use Rattle.omf_comdat.specs.declared.fate.ComdatFate.{ComdatFate}
 use Rattle.omf_extended.specs.Said as later
 use Rattle.omf_extended.specs.Said.{Extended}
 use Rattle.omf_record.specs.Record.{Block, blocks_of, Record, Coment, Extdef, External, Pubdef, Ledata, Lidata, Fixupp}
@@ -14,7 +15,7 @@ use Rattle.omf_wide.specs.Said.{Said}
 use Rattle.omf_wide.specs.declared.segments.WideSegment.{WideSegment}
 use Rattle.omf_plain.specs.declared.fault.Obstacle.{Obstacle}
 use Rattle.omf_plain.specs.declared.fault.Obstacle.TheVariants.{Above16Bits, EasyOmf, FlatFrame, ImportedName}
-use Rattle.omf_plain.specs.declared.fault.Obstacle.TheVariants.{OtherType}
+use Rattle.omf_plain.specs.declared.fault.Obstacle.TheVariants.{LateSegment, OtherType}
 use Rattle.omf_plain.specs.Data.{have_word_counts}
 use Rattle.omf_plain.specs.Externals.{plain_external, plain_listed, plain_communal}
 use Rattle.omf_plain.specs.Fixups.{plain_start, plain_subrecord}
@@ -24,10 +25,12 @@ use Rattle.omf_plain.specs.Seen.{Seen, is_out}
 use Rattle.omf_plain.specs.Segments.{is_kept_out, nothing_of, plain_segment}
 use Rattle.omf_plain.specs.Step.{◌>>=◌, alone, each_of}
 
--- How records are taken: whether what debuggers read is kept in the program, and what names mean.
+-- How the records of a module are taken: whether what debuggers read is kept in the program, what names mean, and what
+-- becomes of the module's COMDAT records, in their order.
 pub record Taking : Type 0 where
   pub keep_debug : Bool
   pub renaming : Renaming
+  pub comdats : List ComdatFate
 
 -- a record, or none, or what is in the way of one
 abbrev pub Taken : Type 0
@@ -70,10 +73,11 @@ plain_record t seen (Ledata segment offset bytes) = Ok (kept seen segment (Ledat
 plain_record t seen (Lidata segment offset blocks) = Ok (kept seen segment (Lidata segment offset blocks))
 plain_record t seen same = Ok (Some same)
 
--- a segment
+-- a segment, which has to stand before those that COMDATs open
 abbrev pub plain_segdef : Taking → Seen → (is_wide : Bool) → WideSegment → Taken
 plain_segdef t seen is_wide s =
-    if is_kept_out t.keep_debug seen.names s.class then Ok (Some (Segdef (nothing_of s)))
+    if nat_lt 0 seen.opened then Err LateSegment
+    else if is_kept_out t.keep_debug seen.names s.class then Ok (Some (Segdef (nothing_of s)))
     else (plain_segment is_wide s >>= λ segment. Ok (Some (Segdef segment)))
 
 -- one of 32 bits, or like it
@@ -100,14 +104,16 @@ plain_repeated seen segment offset blocks =
     else if nat_lt offset 65536 && have_word_counts (blocks_of blocks) then Ok (Some (Lidata segment offset blocks))
     else Err Above16Bits
 
--- one that came after Intel's: communal variables are externals, and aliases say what names mean. No other one is taken
+-- One that came after Intel's and is no COMDAT: communal variables are externals; aliases say what names mean; the lines
+-- of COMDATs say nothing here. No other one is taken.
 abbrev pub plain_later : Taking → Extended → Taken
 plain_later t (later.Comdef local entries unknown) =
     externals local (each_of (λ c. alone (plain_communal t.renaming local c c.extent)) entries)
 plain_later t (later.Alias aliases) = Ok None
+plain_later t (later.Linsym wide continuation name lines) = Ok None
 plain_later t _ = Err OtherType
 
--- a record
+-- a record that is no COMDAT
 unfoldable pub plain : Taking → Seen → Given → Taken
 plain t seen (Narrow r) = plain_record t seen r
 plain t seen (Wide said) = plain_said t seen said

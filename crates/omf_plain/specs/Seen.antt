@@ -1,5 +1,6 @@
 -- What is known of a module from its records so far.
-use Rattle.std.specs.Prelude.{ℕ, zero, suc, Bool, false, if◌then◌else◌, List, [], ◌∷◌, ◌++◌, slice_index_or}
+use Rattle.std.specs.Prelude.{ℕ, zero, suc, Bool, false, if◌then◌else◌, List, [], ◌∷◌, ◌++◌, slice_index_or, None}
+use Rattle.std.specs.declared.option.Option.{Option}
 use Rattle.omf_record.specs.Record.{Record, Lnames, Grpdef, Ledata, Lidata}
 use Rattle.omf_wide.specs.Said.{Said, Plain, Segdef}
 use Rattle.omf_wide.specs.declared.segments.WideSegment.{WideSegment}
@@ -12,16 +13,33 @@ use Rattle.omf_plain.specs.Segments.{is_kept_out}
 pub record Seen : Type 0 where
   -- the names of LNAMES and LLNAMES
   pub names : List (List ℕ)
-  -- of each segment whether it is kept out
+  -- the segments of SEGDEFs, as they are given
+  pub segments : List WideSegment
+  -- of each whether it is kept out
   pub kept_out : List Bool
   -- of each group whether it is FLAT
   pub flat : List Bool
   -- the last record of data
   pub last : Data
+  -- how many COMDAT records there were
+  pub comdats : ℕ
+  -- how many segments they opened, which stand behind those of SEGDEFs
+  pub opened : ℕ
+  -- the index of the segment of the last COMDAT record; none where its data is kept out
+  pub current : Option ℕ
 
 -- before the first record
 abbrev pub nothing_seen : Seen
-nothing_seen = record { names = []; kept_out = []; flat = []; last = Absent }
+nothing_seen = record {
+  names = [];
+  segments = [];
+  kept_out = [];
+  flat = [];
+  last = Absent;
+  comdats = 0;
+  opened = 0;
+  current = None;
+}
 
 -- the segment with this index, from 1 on, is kept out
 abbrev pub is_out : List Bool → ℕ → Bool
@@ -45,8 +63,10 @@ seen_after_record seen _ = seen
 
 -- behind a segment
 abbrev pub seen_after_segment : (keep_debug : Bool) → Seen → WideSegment → Seen
-seen_after_segment keep_debug seen s =
-    record seen { kept_out = seen.kept_out ++ (is_kept_out keep_debug seen.names s.class ∷ []) }
+seen_after_segment keep_debug seen s = record seen {
+  segments = seen.segments ++ (s ∷ []);
+  kept_out = seen.kept_out ++ (is_kept_out keep_debug seen.names s.class ∷ []);
+}
 
 -- behind one of 32 bits, or like it
 abbrev pub seen_after_said : (keep_debug : Bool) → Seen → Said → Seen
@@ -54,7 +74,7 @@ seen_after_said keep_debug seen (Plain r) = seen_after_record seen r
 seen_after_said keep_debug seen (Segdef wide s) = seen_after_segment keep_debug seen s
 seen_after_said keep_debug seen _ = seen
 
--- behind a record
+-- behind a record that is no COMDAT
 abbrev pub seen_after : (keep_debug : Bool) → Seen → Given → Seen
 seen_after keep_debug seen (Narrow r) = seen_after_record seen r
 seen_after keep_debug seen (Wide said) = seen_after_said keep_debug seen said

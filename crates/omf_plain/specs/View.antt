@@ -45,14 +45,22 @@ data_view (last.WideRepeated contents) = WideRepeated (map wide_content_view con
 
 -- how a pass takes records, and what it has seen
 abbrev pub taking_of : {A : Type 0} → Pass A → Taking
-taking_of pass = record { keep_debug = pass.keep_debug; renaming = renaming_said pass.renaming }
+taking_of pass = record {
+  keep_debug = pass.keep_debug;
+  renaming = renaming_said pass.renaming;
+  comdats = pass.comdats.now;
+}
 
 abbrev pub seen_by : {A : Type 0} → Pass A → Seen
 seen_by pass = record {
-  names = texts pass.names.items;
+  names = texts pass.names.listed.items;
+  segments = pass.segments.items;
   kept_out = pass.kept_out.items;
   flat = pass.flat.items;
   last = data_view pass.last;
+  comdats = pass.comdat_count;
+  opened = pass.opened;
+  current = pass.current;
 }
 
 -- the only answer, unless memory runs out

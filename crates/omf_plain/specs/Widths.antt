@@ -1,6 +1,12 @@
 -- What a module has of 32 bits, as it is given.
-use Rattle.std.specs.Prelude.{Bool, true, false, not, ◌&&◌, ◌||◌, nat_lt, is_some, List}
+use Rattle.std.specs.Prelude.{Bool, true, false, not, ◌&&◌, ◌||◌, nat_lt, is_some, Some}
+use Rattle.std.specs.declared.option.Option.{Option}
 use Rattle.std.specs.List.{list_any}
+use Rattle.omf_comdat.specs.declared.fate.ComdatFate.{ComdatFate}
+use Rattle.omf_comdat.specs.declared.fate.ComdatFate.TheVariants.{Opens}
+use Rattle.omf_extended.specs.Said.{Extended, Comdat}
+use Rattle.omf_extended.specs.declared.comdats.ComdatAllocation.{ComdatAllocation}
+use Rattle.omf_extended.specs.declared.comdats.ComdatAllocation.TheVariants.{Code32, Data32}
 use Rattle.omf_record.specs.declared.fixups.Location.TheVariants.{LoaderOffset}
 use Rattle.omf_record.specs.declared.segments.Alignment.{Alignment}
 use Rattle.omf_record.specs.declared.segments.Alignment.TheVariants.{Absolute}
@@ -11,7 +17,8 @@ use Rattle.omf_wide.specs.declared.fixups.WideSubrecord.{WideSubrecord}
 use Rattle.omf_wide.specs.declared.fixups.WideSubrecord.TheVariants.{Fixup}
 use Rattle.omf_wide.specs.declared.segments.WideSegment.{WideSegment}
 use Rattle.omf_plain.specs.declared.widths.Widths.{Widths}
-use Rattle.omf_plain.specs.Given.{Given, Wide}
+use Rattle.omf_plain.specs.Comdats.{fate_of}
+use Rattle.omf_plain.specs.Given.{Given, Wide, Later}
 use Rattle.omf_plain.specs.Plain.{Taking}
 use Rattle.omf_plain.specs.Seen.{Seen}
 use Rattle.omf_plain.specs.Segments.{is_kept_out}
@@ -60,6 +67,17 @@ said_widths t seen (Modend wide main start) = record no_widths { start = wide &&
 said_widths t seen (Segdef wide segment) = record no_widths { segments = is_wide_segment t seen segment }
 said_widths t seen _ = no_widths
 
+-- a segment of 32 bits with bytes that a COMDAT opens
+abbrev pub opens_wide : Option ComdatFate → ComdatAllocation → Bool
+opens_wide (Some (Opens length)) Code32 = nat_lt 0 length
+opens_wide (Some (Opens length)) Data32 = nat_lt 0 length
+opens_wide _ allocation = false
+
+abbrev pub later_widths : Taking → Seen → Extended → Widths
+later_widths t seen (Comdat wide c bytes) = record no_widths { segments = opens_wide (fate_of t seen) c.allocation }
+later_widths t seen _ = no_widths
+
 abbrev pub record_widths : Taking → Seen → Given → Widths
 record_widths t seen (Wide said) = said_widths t seen said
+record_widths t seen (Later said) = later_widths t seen said
 record_widths t seen _ = no_widths

@@ -40,6 +40,9 @@ pub enum Obstacle {
     /// 65: a fix-up, a thread, public names or the start count from the group FLAT, of protected mode.
     #[error("an address counts from the group FLAT")]
     FlatFrame,
+    /// 80: a segment is defined behind a COMDAT that is taken.
+    #[error("a segment is defined behind a COMDAT")]
+    LateSegment,
 }
 
 /// Why a frame holds no record that is taken, by the family of its type.

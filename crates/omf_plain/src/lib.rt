@@ -2,6 +2,7 @@
 //! the modules of such records.
 #![tactic(auto)]
 
+mod comdats;
 mod data;
 mod externals;
 mod fault;
@@ -9,6 +10,7 @@ mod fixups;
 mod flat;
 mod given;
 mod laws;
+mod listed;
 mod modules;
 mod pass;
 mod places;

@@ -1,28 +1,34 @@
 //! Modules as they are given, read as what they say.
 
-ghost use Rattle.std.specs.Prelude.{◌≡◌, ◌+◌, ◌≤◌, ◌||◌, ℕ, List, [], length, IfOk};
+ghost use Rattle.std.specs.Prelude.{◌≡◌, ◌+◌, ◌≤◌, ◌||◌, ℕ, List, [], length, map, IfOk};
+ghost use Rattle.std.specs.List.{AllByRecursion};
 ghost use Rattle.omf_alias.specs.Said.{renaming_said};
 ghost use Rattle.omf_frame.specs.Lending.{plain_frame};
-ghost use Rattle.omf_plain.specs.declared.fault.PlainModuleFault.TheVariants.{Record};
+ghost use Rattle.omf_module.specs.Building.{Holds, IsTakable};
+ghost use Rattle.omf_record.specs.Records.{Placed};
+ghost use Rattle.omf_record.specs.View.{view};
+ghost use Rattle.omf_plain.specs.declared.fault.PlainModuleFault.TheVariants as module_fault;
 ghost use Rattle.omf_plain.specs.Given.{given_len};
 ghost use Rattle.omf_plain.specs.ModuleAnswer.{ModuleAnswers};
 ghost use Rattle.omf_plain.specs.Modules.{GivenRecord, Known, nothing_known};
 ghost use Rattle.omf_plain.specs.Plain.{Taking};
 ghost use Rattle.omf_plain.specs.View.{given_view};
 ghost use Rattle.omf_plain.specs.inside.Walking as walking;
-ghost use Rattle.omf_plain.specs.inside.Walking.{FrameAnswers, GivenIn, Has, TakesFrame};
+ghost use Rattle.omf_plain.specs.inside.Walking.{AddsAll, FrameAnswers, GivenIn, Has, TakesFrame};
 
+use crate::comdats::comdat_in;
 use crate::fault::{GivenFault, PlainFault, PlainModuleFault, RecordObstacle};
 use crate::given::Given;
 use crate::pass::Pass;
 use crate::reading::read_given;
 use crate::widths::Widths;
 use omf_alias::Renaming;
+use omf_comdat::ComdatFate;
 use omf_extended::ExtendedFault;
 use omf_frame::{Frame, FramingFault};
 use omf_library::{FormatFault, LibraryFault, ends_module, record_at};
 use omf_module::{AddFault, Module, ModuleBuilder};
-use omf_record::RecordFault;
+use omf_record::{Record, RecordFault};
 use omf_wide::WideFault;
 use std::alloc::{Allocator, Global};
 
@@ -61,7 +67,7 @@ fn framing_fault(fault: LibraryFault) -> FramingFault
 
 /// The place of a record that isn't taken, and why.
 fn refused(place: usize, why: RecordObstacle) -> PlainModuleFault
-    ensures { result ≡ Record place why }
+    ensures { result ≡ module_fault.Record place why }
 {
     PlainModuleFault::Record {
         place: place as u64,
@@ -145,15 +151,43 @@ fn given_in<'a, A: Allocator + Copy + 'a>(
     }
 }
 
+/// Adds the records of the fourteen that a frame's record is, at its place.
+fn add_all<A: Allocator + Copy>(
+    builder: &mut ModuleBuilder<A>,
+    alloc: A,
+    frame: &Frame<'_>,
+    records: &[Record<'_, A>],
+) -> Result<(), PlainModuleFault>
+    requires { AllByRecursion IsTakable (map view records.now) }
+    ensures { (before : List Placed) → Holds before builder.old
+        → AddsAll before (plain_frame frame.now) (map view records.now) builder.new result }
+{
+    for record in records {
+        match builder.add(alloc, frame.place, record) {
+            Ok(()) => {}
+            Err(fault) => return Err(adding_fault(frame.place, fault)),
+        }
+    }
+    Ok(())
+}
+
 impl<'a, A: Allocator + Copy + 'a> Reading<'a, A> {
     /// Before the first record.
-    fn new(alloc: A, keep_debug: bool, renaming: &Renaming<'a, 'a>) -> Reading<'a, A>
-        ensures { Has (record { keep_debug = keep_debug; renaming = renaming_said renaming.now }) [] nothing_known
-            result }
+    fn new(
+        alloc: A,
+        keep_debug: bool,
+        renaming: &Renaming<'a, 'a>,
+        comdats: &'a [ComdatFate],
+    ) -> Reading<'a, A>
+        ensures { Has (record {
+          keep_debug = keep_debug;
+          renaming = renaming_said renaming.now;
+          comdats = comdats.now;
+        }) [] nothing_known result }
     {
         Reading {
             alloc,
-            pass: Pass::new(alloc, keep_debug, renaming),
+            pass: Pass::new(alloc, keep_debug, renaming, comdats),
             builder: ModuleBuilder::new(alloc),
             widths: Widths {
                 fixups: false,
@@ -171,6 +205,12 @@ impl<'a, A: Allocator + Copy + 'a> Reading<'a, A> {
         let place = frame.place;
         let given = given_in(self.alloc, frame)?;
         self.widths = self.widths.or(self.pass.widths_of(&given));
+        if let Some((comdat, bytes)) = comdat_in(&given) {
+            return match self.pass.take_comdat(&comdat, bytes) {
+                Ok(records) => add_all(&mut self.builder, self.alloc, frame, &records),
+                Err(fault) => Err(taking_fault(place, fault)),
+            };
+        }
         match self.pass.take(given) {
             Ok(None) => Ok(()),
             Ok(Some(record)) => match self.builder.add(self.alloc, place, &record) {
@@ -184,18 +224,22 @@ impl<'a, A: Allocator + Copy + 'a> Reading<'a, A> {
 
 /// The module that the bytes begin with, its records of any width taken as the fourteen, up to the first MODEND; else
 /// the first record that isn't taken, by its place in the bytes, and why. What debuggers read, of the classes DEBSYM,
-/// DEBTYP and DWARF, is kept in the program where that is asked for; and names mean what the aliases say. `Memory`
-/// comes only where memory was refused.
+/// DEBTYP and DWARF, is kept in the program where that is asked for; names mean what the aliases say; and of its COMDAT
+/// records becomes what is said of each. `Memory` comes only where memory was refused.
 pub fn read_plain<'a, A: Allocator + Copy + 'a>(
     alloc: A,
     bytes: &'a [u8],
     keep_debug: bool,
     renaming: &Renaming<'a, 'a>,
+    comdats: &'a [ComdatFate],
 ) -> Result<PlainModule<A>, PlainModuleFault>
-    ensures { ModuleAnswers (record { keep_debug = keep_debug; renaming = renaming_said renaming.now }) bytes.now
-        result }
+    ensures { ModuleAnswers (record {
+      keep_debug = keep_debug;
+      renaming = renaming_said renaming.now;
+      comdats = comdats.now;
+    }) bytes.now result }
 {
-    let mut reading = Reading::new(alloc, keep_debug, renaming);
+    let mut reading = Reading::new(alloc, keep_debug, renaming, comdats);
     let mut place = 0;
     loop {
         let frame = frame_in(bytes, place)?;

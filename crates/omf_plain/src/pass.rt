@@ -31,9 +31,11 @@ use crate::fault::{Obstacle, PlainFault};
 use crate::fixups::{plain_start, plain_subrecords};
 use crate::flat::{base_is_flat, flag_at, is_flat_group};
 use crate::given::Given;
+use crate::listed::Listed;
 use crate::repeated::plain_blocks;
 use crate::segments::{is_kept_out, nothing_of, plain_segment};
 use omf_alias::Renaming;
+use omf_comdat::ComdatFate;
 use omf_extended::{Extended, WideBlock, WideRepeated};
 use omf_record::{External, Record, Subrecord};
 use omf_wide::{Communal, ListedExternal, Said, WideData, WideSegment, WideSubrecord};
@@ -42,19 +44,29 @@ use std::alloc::{AllocError, Allocator, Global};
 /// How the records of a module are taken, and what is known of it from those so far.
 #[derive(Drop)]
 pub struct Pass<'a, A: Allocator + Copy = Global> {
-    alloc: A,
+    pub(crate) alloc: A,
     /// Whether what debuggers read, of the classes DEBSYM, DEBTYP and DWARF, is kept in the program.
     keep_debug: bool,
     /// What names mean.
     renaming: Renaming<'a, 'a>,
+    /// What becomes of the COMDAT records, in their order.
+    pub(crate) comdats: &'a [ComdatFate],
     /// The names of LNAMES and LLNAMES.
-    names: Vec<&'a [u8], A>,
-    /// Of each segment whether it is kept out.
-    kept_out: Vec<bool, A>,
+    pub(crate) names: Listed<'a, A>,
+    /// The segments of SEGDEFs, as they are given.
+    pub(crate) segments: Vec<WideSegment, A>,
+    /// Of each whether it is kept out.
+    pub(crate) kept_out: Vec<bool, A>,
     /// Of each group whether it is FLAT.
-    flat: Vec<bool, A>,
+    pub(crate) flat: Vec<bool, A>,
     /// The last record of data.
-    last: Data<'a, A>,
+    pub(crate) last: Data<'a, A>,
+    /// How many COMDAT records there were.
+    pub(crate) comdat_count: usize,
+    /// How many segments they opened, which stand behind those of SEGDEFs.
+    pub(crate) opened: u16,
+    /// The index of the segment of the last COMDAT record; None where its data is kept out.
+    pub(crate) current: Option<u16>,
 }
 
 /// A record, or none, or what is in the way of one.
@@ -98,18 +110,32 @@ fn fixupp<'a, A: Allocator + Copy>(
 
 impl<'a, A: Allocator + Copy> Pass<'a, A> {
     /// Before the first record.
-    pub fn new(alloc: A, keep_debug: bool, renaming: &Renaming<'a, 'a>) -> Pass<'a, A>
-        ensures taking { taking_of result ≡ record { keep_debug = keep_debug; renaming = renaming_said renaming.now } }
+    pub fn new(
+        alloc: A,
+        keep_debug: bool,
+        renaming: &Renaming<'a, 'a>,
+        comdats: &'a [ComdatFate],
+    ) -> Pass<'a, A>
+        ensures taking { taking_of result ≡ record {
+          keep_debug = keep_debug;
+          renaming = renaming_said renaming.now;
+          comdats = comdats.now;
+        } }
         ensures seen { seen_by result ≡ seen.nothing_seen }
     {
         Pass {
             alloc,
             keep_debug,
             renaming: *renaming,
-            names: Vec::new(alloc),
+            comdats,
+            names: Listed::new(alloc),
+            segments: Vec::new(alloc),
             kept_out: Vec::new(alloc),
             flat: Vec::new(alloc),
             last: Data::Absent,
+            comdat_count: 0,
+            opened: 0,
+            current: None,
         }
     }
 
@@ -163,7 +189,7 @@ impl<'a, A: Allocator + Copy> Pass<'a, A> {
     {
         extdef(
             false,
-            listed_externals(self.alloc, &self.renaming, &self.names, names),
+            listed_externals(self.alloc, &self.renaming, &self.names.listed, names),
         )
     }
 
@@ -239,7 +265,7 @@ impl<'a, A: Allocator + Copy> Pass<'a, A> {
                 Ok(Some(Record::Lnames { names }))
             }
             Record::Grpdef { name, segments } => {
-                let flat = is_flat_group(&self.names, name);
+                let flat = is_flat_group(&self.names.listed, name);
                 self.flat.push(flat)?;
                 Ok(Some(Record::Grpdef { name, segments }))
             }
@@ -289,7 +315,7 @@ impl<'a, A: Allocator + Copy> Pass<'a, A> {
     pub(crate) fn keeps_out(&self, segment: WideSegment) -> bool
         ensures { result ≡ segs.is_kept_out (taking_of self.now).keep_debug (seen_by self.now).names segment.class }
     {
-        is_kept_out(self.keep_debug, &self.names, segment.class)
+        is_kept_out(self.keep_debug, &self.names.listed, segment.class)
     }
 
     /// A segment as it is taken.
@@ -301,14 +327,18 @@ impl<'a, A: Allocator + Copy> Pass<'a, A> {
         ensures seen { OnOk result (seen_by self.new
             ≡ seen.seen_after_segment (taking_of self.old).keep_debug (seen_by self.old) segment) }
     {
+        if self.opened > 0 {
+            return Err(PlainFault::Of(Obstacle::LateSegment));
+        }
         let kept_out = self.keeps_out(segment);
-        let segment = if kept_out {
+        let taken = if kept_out {
             nothing_of(segment)
         } else {
             plain_segment(wide, segment)?
         };
+        self.segments.push(segment)?;
         self.kept_out.push(kept_out)?;
-        Ok(Some(Record::Segdef { segment }))
+        Ok(Some(Record::Segdef { segment: taken }))
     }
 
     /// One of 32 bits, or like it, as it is taken.
@@ -418,7 +448,7 @@ impl<'a, A: Allocator + Copy> Pass<'a, A> {
         Ok(taken)
     }
 
-    /// One that came after Intel's as it is taken.
+    /// One that came after Intel's and is no COMDAT, as it is taken.
     #[tactic(auto, unfolding(omf_extended::specs::View::extended_view))]
     fn plain_later(&self, said: Extended<'a, A>) -> Taken<'a, A>
         ensures { Answers (option_map view) result (plain.plain_later (taking_of self.now) (extended_view said.entry)) }
@@ -429,13 +459,13 @@ impl<'a, A: Allocator + Copy> Pass<'a, A> {
                 communals,
                 unknown: _,
             } => self.plain_comdef(local, &communals),
-            Extended::Alias { aliases: _ } => Ok(None),
+            Extended::Alias { aliases: _ } | Extended::Linsym { .. } => Ok(None),
             _ => Err(PlainFault::Of(Obstacle::OtherType)),
         }
     }
 
     /// The record that one says as the fourteen have them, or None where it says nothing there; else what is in the way
-    /// of it. The records of a module are taken in their order.
+    /// of it, as it is of a COMDAT. The records of a module are taken in their order.
     #[tactic(auto, unfolding(crate::specs::Plain::plain, omf_record::specs::View::view))]
     pub fn take(&mut self, given: Given<'a, A>) -> Result<Option<Record<'a, A>>, PlainFault>
         requires { given_len (given_view given) ≤ 65534 }

@@ -8,6 +8,8 @@ ghost use Rattle.omf_plain.specs.View.{given_view, seen_by, taking_of};
 
 use crate::given::Given;
 use crate::pass::Pass;
+use omf_comdat::ComdatFate;
+use omf_extended::{ComdatAllocation, Extended};
 use omf_record::{Alignment, Location};
 use omf_wide::{Said, WideLocation, WideSegment, WideSubrecord};
 use std::alloc::Allocator;
@@ -76,9 +78,20 @@ fn has_wide_bytes(segment: WideSegment) -> bool
     segment.use32 && !is_absolute(segment.alignment) && (segment.big || segment.length > 0)
 }
 
+/// Whether a COMDAT opens a segment of 32 bits with bytes.
+fn opens_wide(fate: Option<ComdatFate>, allocation: ComdatAllocation) -> bool
+    ensures { result ≡ spec.opens_wide fate allocation }
+{
+    match (fate, allocation) {
+        (Some(ComdatFate::Opens { length }), ComdatAllocation::Code32 | ComdatAllocation::Data32) =>
+            length > 0,
+        _ => false,
+    }
+}
+
 impl<'a, A: Allocator + Copy> Pass<'a, A> {
     /// What a record has of 32 bits that is the next one.
-    #[tactic(auto, unfolding(omf_wide::specs::View::said_view))]
+    #[tactic(auto, unfolding(omf_wide::specs::View::said_view, omf_extended::specs::View::extended_view))]
     pub(crate) fn widths_of(&self, given: &Given<'a, A>) -> Widths
         ensures { result ≡ spec.record_widths (taking_of self.now) (seen_by self.now) (given_view given.now) }
     {
@@ -100,6 +113,17 @@ impl<'a, A: Allocator + Copy> Pass<'a, A> {
                 let wide = has_wide_bytes(*segment) && !self.keeps_out(*segment);
                 (false, false, wide)
             }
+            Given::Later(
+                Extended::Comdat {
+                    wide: _,
+                    comdat,
+                    bytes: _,
+                },
+            ) => (
+                false,
+                false,
+                opens_wide(self.comdat_fate(), comdat.allocation),
+            ),
             _ => (false, false, false),
         };
         Widths {

@@ -1,6 +1,5 @@
 -- How a module is read, one frame after the other.
 use Rattle.std.specs.Prelude.{◌≡◌, ℕ, if◌then◌else◌, List, [], ◌∷◌, ◌++◌, drop, None, Some, Ok, Err}
-use Rattle.std.specs.declared.option.Option.{Option}
 use Rattle.std.specs.declared.result.Result.{Result}
 use Rattle.omf_frame.specs.Frame.{Frame, frame_at}
 use Rattle.omf_frame.specs.Lending.{plain_frame}
@@ -11,10 +10,13 @@ use Rattle.omf_library.specs.declared.fault.FormatFault.TheVariants as format
 use Rattle.omf_library.specs.declared.fault.LibraryFault.{LibraryFault}
 use Rattle.omf_library.specs.declared.fault.LibraryFault.TheVariants.{Malformed}
 use Rattle.omf_module.specs.Building.{Holds}
-use Rattle.omf_module.specs.Faults.{fault}
+use Rattle.omf_module.specs.Faults.{first_fault}
 use Rattle.omf_module.specs.declared.builder.AddFault.{AddFault}
 use Rattle.omf_module.specs.declared.builder.AddFault.TheVariants as adds
+use Rattle.omf_module.specs.declared.builder.ModuleBuilder.{ModuleBuilder}
 use Rattle.omf_record.specs.Record.{Record}
+use Rattle.omf_record.specs.Records.{Placed}
+use Rattle.omf_plain.specs.Comdats.{says_of}
 use Rattle.omf_plain.specs.declared.fault.GivenFault.{GivenFault}
 use Rattle.omf_plain.specs.declared.fault.PlainFault.{PlainFault}
 use Rattle.omf_plain.specs.declared.fault.PlainFault.TheVariants as takes
@@ -25,8 +27,8 @@ use Rattle.omf_plain.specs.declared.fault.RecordObstacle.{RecordObstacle}
 use Rattle.omf_plain.specs.declared.given.Given as held
 use Rattle.omf_plain.specs.declared.modules.Reading as code
 use Rattle.omf_plain.specs.Given.{Given}
-use Rattle.omf_plain.specs.Modules.{GivenRecord, Known, nothing_known, known_behind}
-use Rattle.omf_plain.specs.Plain.{Taking, plain}
+use Rattle.omf_plain.specs.Modules.{GivenRecord, Known, nothing_known, placed, known_behind}
+use Rattle.omf_plain.specs.Plain.{Taking}
 use Rattle.omf_plain.specs.Reading.{IsGiven, IsGivenFault, is_memory}
 use Rattle.omf_plain.specs.View.{given_view, seen_by, taking_of}
 
@@ -67,6 +69,15 @@ GivenIn kind body place (Err module_fault.Memory) = Unit {0}
 GivenIn kind body place (Err (module_fault.Record at (why.Body f))) = (at ≡ place) × IsGivenFault kind body f
 GivenIn kind body place (Err _) = ⊥
 
+-- records of the fourteen are added behind these, all at the place of a frame, or aren't
+abbrev pub AddsAll : {A X : Type 0} → List Placed → Frame → List Record → (new : ModuleBuilder A)
+    → Result X PlainModuleFault → Type 0
+AddsAll before f rs new (Ok done) = Holds (before ++ placed f rs) new
+AddsAll before f rs new (Err module_fault.Memory) = Unit {0}
+AddsAll before f rs new (Err (module_fault.Record at (why.Check c))) =
+    (at ≡ f.place) × (first_fault (before ++ placed f rs) ≡ Some (f.place, c))
+AddsAll before f rs new (Err _) = ⊥
+
 -- what is read: these given records, behind which this is known
 pub record Has {A : Type 0} (t : Taking) (gs : List GivenRecord) (k : Known) (reading : code.Reading A) : Type 0 where
   pub taking : taking_of reading.pass ≡ t
@@ -79,10 +90,11 @@ pub record Has {A : Type 0} (t : Taking) (gs : List GivenRecord) (k : Known) (re
 abbrev pub RefusedFrame : Taking → Known → Frame → RecordObstacle → Type 0
 RefusedFrame t k f (why.Body e) = IsGivenFault f.kind f.body e
 RefusedFrame t k f (why.Obstacle o) =
-    (given : Given) × IsGiven f.kind f.body given × (plain t k.seen given ≡ Err o)
+    (given : Given) × IsGiven f.kind f.body given × (says_of t k.seen given ≡ Err o)
 RefusedFrame t k f (why.Check c) =
     (given : Given) × IsGiven f.kind f.body given
-    × ((r : Record) × (plain t k.seen given ≡ Ok (Some r)) × (fault k.says r ≡ Some c))
+    × ((rs : List Record) × (says_of t k.seen given ≡ Ok rs)
+    × (first_fault (k.says ++ placed f rs) ≡ Some (f.place, c)))
 RefusedFrame t k f _ = ⊥
 
 -- what a frame holds is taken behind these, or isn't

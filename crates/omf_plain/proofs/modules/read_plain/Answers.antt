@@ -12,7 +12,11 @@ use Rattle.omf_plain.proofs.modules.read_plain.Goals as goal
 
 pub returns-in_err-frame : goal.returns-in_err-frame
 returns-in_err-frame g c =
-    let t : Taking = record { keep_debug = c.args.keep_debug; renaming = renaming_said c.args.renaming.now } in
+    let t : Taking = record {
+      keep_debug = c.args.keep_debug;
+      renaming = renaming_said c.args.renaming.now;
+      comdats = c.args.comdats.now;
+    } in
     let bytes = c.args.bytes.now in
     let (gs, k, has, stand, open', at, within) = c.loop-reading.invariant in
     let p = err_from_is_err_and c.from_residual.result c.from_residual.ensures.1 in
@@ -22,7 +26,11 @@ returns-in_err-frame g c =
 
 pub returns-in_err-take : goal.returns-in_err-take
 returns-in_err-take g c =
-    let t : Taking = record { keep_debug = c.args.keep_debug; renaming = renaming_said c.args.renaming.now } in
+    let t : Taking = record {
+      keep_debug = c.args.keep_debug;
+      renaming = renaming_said c.args.renaming.now;
+      comdats = c.args.comdats.now;
+    } in
     let bytes = c.args.bytes.now in
     let (gs, k, has, stand, open', at, within) = c.loop-reading.invariant in
     let p = err_from_is_err_and c.from_residual-in_err-take.result c.from_residual-in_err-take.ensures.1 in
@@ -34,7 +42,11 @@ returns-in_err-take g c =
 
 pub finish-requires : goal.finish-requires
 finish-requires g c =
-    let t : Taking = record { keep_debug = c.args.keep_debug; renaming = renaming_said c.args.renaming.now } in
+    let t : Taking = record {
+      keep_debug = c.args.keep_debug;
+      renaming = renaming_said c.args.renaming.now;
+      comdats = c.args.comdats.now;
+    } in
     let (gs, k, has, stand, open', at, within) = c.loop-reading.invariant in
     let (given, l, more) = c.in_ok-take.ensures t gs k has in
     let (next, held) = more in
@@ -42,7 +54,11 @@ finish-requires g c =
 
 pub returns-then-ends_module : goal.returns-then-ends_module
 returns-then-ends_module g c =
-    let t : Taking = record { keep_debug = c.args.keep_debug; renaming = renaming_said c.args.renaming.now } in
+    let t : Taking = record {
+      keep_debug = c.args.keep_debug;
+      renaming = renaming_said c.args.renaming.now;
+      comdats = c.args.comdats.now;
+    } in
     let bytes = c.args.bytes.now in
     let (gs, k, has, stand, open', at, within) = c.loop-reading.invariant in
     let (given, l, more) = c.in_ok-take.ensures t gs k has in
@@ -61,7 +77,11 @@ returns-then-ends_module g c =
 
 pub loop-reading-preserved : goal.loop-reading-preserved
 loop-reading-preserved g c =
-    let t : Taking = record { keep_debug = c.args.keep_debug; renaming = renaming_said c.args.renaming.now } in
+    let t : Taking = record {
+      keep_debug = c.args.keep_debug;
+      renaming = renaming_said c.args.renaming.now;
+      comdats = c.args.comdats.now;
+    } in
     let bytes = c.args.bytes.now in
     let (gs, k, has, stand, open', at, within) = c.loop-reading.invariant in
     let (given, l, more) = c.in_ok-take.ensures t gs k has in

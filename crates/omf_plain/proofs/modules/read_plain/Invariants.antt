@@ -8,7 +8,11 @@ use Rattle.omf_plain.proofs.modules.read_plain.Given as goal
 abbrev pub invariant-loop-reading : goal.invariant-loop-reading
 invariant-loop-reading g l =
     (gs : List GivenRecord) × (k : Known)
-    × Has (record { keep_debug = l.keep_debug; renaming = renaming_said l.renaming }) gs k l.reading
+    × Has (record {
+      keep_debug = l.keep_debug;
+      renaming = renaming_said l.renaming;
+      comdats = l.comdats;
+    }) gs k l.reading
     × Stand l.bytes 0 gs × AreOpen gs × (l.place ≡ behind 0 gs) × (l.place ≤ length l.bytes)
 
 abbrev pub decreases-loop-reading : goal.decreases-loop-reading
