@@ -14,10 +14,11 @@ use Rattle.doslink_passes.specs.declared.stop.Stop.TheVariants.{Input, Device, M
 use Rattle.doslink_stock.specs.Files.{Held, needs}
 use Rattle.doslink_passes.specs.Communals.{AreVariablesOf}
 use Rattle.doslink_passes.specs.Chain.{AreModulesOf}
+use Rattle.doslink_passes.specs.Plain.{AreFaulty}
 use Rattle.doslink_passes.specs.Request.{bytes_in, names_of}
 use Rattle.doslink_jobs.specs.Jobs.{EndsWith, IsDone, IsLinkOf}
 use Rattle.doslink_jobs.specs.Places.{map_path, out_path}
-use Rattle.doslink_jobs.specs.Refusals.{AreMissingOf, IsFaulty, IsRefusedJob, IsRefusedOf}
+use Rattle.doslink_jobs.specs.Refusals.{AreMissingOf, IsRefusedJob, IsRefusedOf}
 use Rattle.doslink_jobs.specs.Runs.{EndsBy}
 use Rattle.doslink_jobs.specs.Wrong.{AreApart, EndsJob, IsNamedWell, IsWrongJob}
 use Rattle.omf_files.specs.declared.world.Looked.{Looked}
@@ -91,15 +92,14 @@ missing-with A job modules vs says own all mine are missing = (
   )),
 )
 
--- nor where one of them is faulty
+-- nor where they can't be read together
 pub faulty-with : (A : Type 0) (job : Job) (modules : List Held) (says : List Module) (own : List (List ℕ))
-    → says ≡ map needs modules → own ≡ bytes_in modules → Any (IsFaulty job says own) own
+    → says ≡ map needs modules → own ≡ bytes_in modules → AreFaulty job says own own
     → IsRefusedOf A job (λ ms. ms ≡ modules)
 faulty-with A job modules says own all mine faulty = (
   modules,
   refl,
-  inl (subst (λ o. Any (IsFaulty job (map needs modules) o) o) mine
-      (subst (λ s. Any (IsFaulty job s own) own) all faulty)),
+  inl (subst (λ o. AreFaulty job (map needs modules) o o) mine (subst (λ s. AreFaulty job s own own) all faulty)),
 )
 
 -- nor where they can't be linked with these variables

@@ -1,7 +1,6 @@
 -- Modules that can't be read, one behind the other.
 use Rattle.std.proofs.Common.{◌≡◌, ◌⊎◌, ◌<◌, ◌+◌, ◌∙◌, ℕ, All, Any, List, inl, inr, ap, get_or}
-use Rattle.std.proofs.Common.{length, map, take, sym, subst}
-use Rattle.std.proofs.lemmas.Option.{get_or_from_slice_get, slice_get-get_or}
+use Rattle.std.proofs.Common.{length, map, take, sym}
 use Rattle.std.proofs.lemmas.Simd.{map-map}
 use Rattle.std.specs.Borrow.{Bor}
 use Rattle.omf_place.specs.declared.names.Names.{Names}
@@ -10,32 +9,17 @@ use Rattle.doslink_telling.specs.Offering.{Offering, all_offering, offering_said
 use Rattle.doslink_telling.specs.declared.offering.Offering as member
 use Rattle.doslink_link.specs.Linking.{bytes_of}
 use Rattle.doslink_words.specs.declared.job.Job.{Job}
-use Rattle.doslink_passes.specs.Meanings.{AreMeaningsFor, taking_by}
-use Rattle.doslink_passes.specs.Plain.{IsNoPlain}
-use Rattle.doslink_passes.specs.declared.meanings.Meanings.{Meanings}
+use Rattle.doslink_passes.specs.Plain.{AreFaultless, AreFaulty}
 use Rattle.doslink_passes.proofs.Endless.{all-turn}
+use Rattle.doslink_passes.proofs.Fates.{at-place}
 use Rattle.doslink_passes.proofs.Refused.{any-seen}
-use Rattle.doslink_passes.proofs.Taking.{taking-for}
-use Rattle.doslink_jobs.specs.Refusals.{IsFaulty}
 use Rattle.doslink_jobs.specs.inside.Suspects.{HaveSuspect}
-
--- what holds by what names mean, as it is held, holds by that of the job
-pub by-job : {A : Type 0} (job : Job) (says : List Module) (given : List (List ℕ)) (m : Meanings A) (bytes : List ℕ)
-    (P : Type 0 → Type 0) → AreMeaningsFor job says given m
-    → P (IsNoPlain (taking_by job.keep_debug m bytes) bytes) → P (IsFaulty job says given bytes)
-by-job job says given m bytes P are p = subst (λ t. P (IsNoPlain t bytes)) (taking-for job says given m are bytes) p
 
 -- what may be why names are missing, without the members that are offered
 pub suspected : (job : Job) (says : List Module) (given : List (List ℕ)) (offering : List Offering)
-    → HaveSuspect job says given offering
-    → Any (IsFaulty job says given) given ⊎ All (λ bytes. IsFaulty job says given bytes → ⊥) given
-suspected job says given offering (inl some) = inl some
-suspected job says given offering (inr (none, offered)) = inr none
-
--- what stands at a place within a list doesn't hang on what would stand behind its end
-at-place : {X : Type 0} (xs : List X) (i : ℕ) (d : X) → i < length xs → get_or xs i d ≡ get_or xs i (get_or xs i d)
-at-place xs i d h =
-    sym (get_or_from_slice_get xs i (get_or xs i d) (get_or xs i d) (slice_get-get_or xs i d h))
+    → HaveSuspect job says given offering → AreFaulty job says given given ⊎ AreFaultless job says given given
+suspected job says given offering (inl faulty) = inl faulty
+suspected job says given offering (inr (all, offered)) = inr all
 
 -- one more of which it holds
 pub all-one : {X Y : Type 0} (P : Y → Type 0) (f : X → Y) (xs : List X) (i : ℕ) (d : X) → i < length xs

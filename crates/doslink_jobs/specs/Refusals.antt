@@ -1,5 +1,5 @@
 -- Why the files of a job can't be linked: one of these holds where a run ends with status 1.
-use Rattle.std.specs.Prelude.{◌≡◌, ◌≢◌, ◌⊎◌, ℕ, All, Any, List, [], map, IsErr}
+use Rattle.std.specs.Prelude.{◌≡◌, ◌≢◌, ◌⊎◌, ℕ, List, [], map, IsErr}
 use Rattle.std.specs.declared.option.Option.{Option}
 use Rattle.clap.specs.Words.{Text}
 use Rattle.omf_commands.specs.Linking.{IsModulesFault}
@@ -11,7 +11,7 @@ use Rattle.omf_plain.specs.declared.widths.Widths.{Widths}
 use Rattle.omf_search.specs.Said as search
 use Rattle.doslink_passes.specs.Chain.{AreModulesOf, HaveNoModules}
 use Rattle.doslink_passes.specs.Communals.{AreVariablesOf, HaveNoVariables}
-use Rattle.doslink_passes.specs.Plain.{IsNoPlain, taking_of}
+use Rattle.doslink_passes.specs.Plain.{AreFaultless, AreFaulty}
 use Rattle.doslink_passes.specs.Request.{bytes_in, names_of}
 use Rattle.doslink_stock.specs.Files.{Held, members, needs}
 use Rattle.doslink_stock.specs.Search.{Takes, all_files}
@@ -27,16 +27,12 @@ abbrev pub HaveFault : (A : Type 0) → Option Form → Names → (linked : List
 HaveFault A form names linked =
     ((fault : LinkFault A) × IsModulesFault names linked fault) ⊎ HasFormFault form names linked
 
--- the module of these bytes isn't one as a job takes it, by what names mean in the modules that are given
-abbrev pub IsFaulty : Job → (says : List search.Module) → (given : List (List ℕ)) → (bytes : List ℕ) → Type 0
-IsFaulty job says given bytes = IsNoPlain (taking_of job says given bytes) bytes
-
--- Names are missing, where modules of these bytes say so of names: that is told where none of them is faulty, and else
--- such a module, since a name may be missing alone because it can't be read.
+-- Names are missing, where modules of these bytes say so of names: that is told where these can be read together, and
+-- else why they can't, since a name may be missing alone because a module can't be read.
 abbrev pub AreMissingOf : Job → (says : List search.Module) → (given : List (List ℕ)) → Type 0
 AreMissingOf job says given =
     (unmet (names_of job.ignore_case) says ≢ [])
-    × (Any (IsFaulty job says given) given ⊎ All (λ bytes. IsFaulty job says given bytes → ⊥) given)
+    × (AreFaulty job says given given ⊎ AreFaultless job says given given)
 
 -- These modules, which a link takes, can't be linked with these communal variables of theirs: a name is missing,
 -- nothing is linked for them, or a fault stands in what is.
@@ -50,12 +46,12 @@ AreRefusedWith A job modules vs =
     × AreModulesOf job says marks modules vs widths sources linked
     × HaveFault A job.form (names_of job.ignore_case) linked))
 
--- a module among these, which a link takes, is faulty
+-- these modules, which a link takes, can't be read together
 abbrev pub HaveFaulty : Job → (modules : List Held) → Type 0
-HaveFaulty job modules = Any (IsFaulty job (map needs modules) (bytes_in modules)) (bytes_in modules)
+HaveFaulty job modules = AreFaulty job (map needs modules) (bytes_in modules) (bytes_in modules)
 
--- the modules that a link takes can't be linked: one is faulty, they don't agree on communal variables, or not with
--- these
+-- the modules that a link takes can't be linked: they can't be read together, they don't agree on communal variables, or
+-- can't be linked with these
 abbrev pub IsRefusedOf : (A : Type 0) → Job → (takes : List Held → Type 0) → Type 0
 IsRefusedOf A job takes =
     (modules : List Held) × takes modules

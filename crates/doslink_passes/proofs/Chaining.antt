@@ -1,5 +1,5 @@
 -- Modules that are chained, and why they aren't.
-use Rattle.std.proofs.Common.{◌≡◌, ℕ, Any, Bool, List, map, inl, inr, subst, sym, Vec}
+use Rattle.std.proofs.Common.{◌≡◌, ℕ, Bool, List, map, inl, inr, subst, sym, Vec}
 use Rattle.omf_communal.specs.Deciding.{Variable}
 use Rattle.omf_module.specs.Module as omf
 use Rattle.omf_plain.specs.declared.widths.Widths.{Widths}
@@ -13,7 +13,7 @@ use Rattle.doslink_passes.specs.Linked.{Linked}
 use Rattle.doslink_passes.specs.Locals.{HaveLocals, SomeHasNoLocals}
 use Rattle.doslink_passes.specs.Meant.{AreMeant, taking_for}
 use Rattle.doslink_passes.specs.Orders.{asking_of}
-use Rattle.doslink_passes.specs.Plain.{AreTakenFor, IsNotTaken}
+use Rattle.doslink_passes.specs.Plain.{AreNotTaken, AreTakenFor}
 use Rattle.doslink_passes.specs.Request.{bytes_in, names_of}
 use Rattle.doslink_passes.specs.Sums.{AllFit, SomeOverflows}
 use Rattle.doslink_passes.specs.declared.meanings.Meanings.{Meanings}
@@ -42,9 +42,9 @@ module _ (job : Job) (says : List Module) (marks : Bool) (modules : List Held) (
     joined = subst (λ l. AreJoined (asking_of job marks modules) job.stack (from l placed) vs linked) is joined;
   }
 
-  -- one isn't taken
-  pub none-taken : Any (IsNotTaken job says given) given → HaveNoModules job says marks modules vs
-  none-taken some = inl (subst (λ l. Any (IsNotTaken job says l) l) is some)
+  -- they aren't taken
+  pub none-taken : AreNotTaken job says given → HaveNoModules job says marks modules vs
+  none-taken none = inl (subst (AreNotTaken job says) is none)
 
   -- one has no place for what is local to it
   pub none-local : (widths : List Widths) (taken : List omf.Module) → AreTakenFor job says given taken widths

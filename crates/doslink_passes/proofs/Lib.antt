@@ -1,6 +1,7 @@
 pub mod Chaining
 pub mod Declaring
 pub mod Endless
+pub mod Fates
 pub mod Fronts
 mod Held
 pub mod Lists

@@ -1,5 +1,5 @@
 -- The modules that are linked for those that a link takes, pass by pass, and why there are none.
-use Rattle.std.specs.Prelude.{◌⊎◌, ℕ, Any, Bool, List}
+use Rattle.std.specs.Prelude.{◌⊎◌, ℕ, Bool, List}
 use Rattle.omf_communal.specs.Deciding.{Variable}
 use Rattle.omf_module.specs.Module as omf
 use Rattle.omf_plain.specs.declared.widths.Widths.{Widths}
@@ -11,7 +11,7 @@ use Rattle.doslink_passes.specs.Linked.{Linked}
 use Rattle.doslink_passes.specs.Locals.{HaveLocals, SomeHasNoLocals}
 use Rattle.doslink_passes.specs.Meant.{AreMeant, taking_for}
 use Rattle.doslink_passes.specs.Orders.{asking_of}
-use Rattle.doslink_passes.specs.Plain.{AreTakenFor, IsNotTaken}
+use Rattle.doslink_passes.specs.Plain.{AreNotTaken, AreTakenFor}
 use Rattle.doslink_passes.specs.Request.{bytes_in, names_of}
 use Rattle.doslink_passes.specs.Sums.{AllFit, SomeOverflows}
 
@@ -35,13 +35,13 @@ pub record AreModulesOf (job : Job) (says : List Module) (marks : Bool) (modules
   pub are_meant : AreMeant (taking_for job says) (record { sources = sources; modules = linked }) meant
   pub fit : AllFit widths (names_of job.ignore_case) meant
 
--- Nothing is linked for the modules that a link takes, which say so of names with these communal variables: one of them
--- isn't taken, has no place for variables that are local to it, nothing can be joined to them, or a fix-up or start of
+-- Nothing is linked for the modules that a link takes, which say so of names with these communal variables: they aren't
+-- taken, one has no place for variables that are local to it, nothing can be joined to them, or a fix-up or start of
 -- 32 bits that became one of 16 doesn't fit.
 abbrev pub HaveNoModules : Job → (says : List Module) → (marks : Bool) → (modules : List Held) → List Variable
     → Type 0
 HaveNoModules job says marks modules vs =
-    Any (IsNotTaken job says (bytes_in modules)) (bytes_in modules)
+    AreNotTaken job says (bytes_in modules)
     ⊎ ((taken : List omf.Module) × (widths : List Widths) × AreTakenFor job says (bytes_in modules) taken widths
     × (SomeHasNoLocals (names_of job.ignore_case) taken (bytes_in modules) taken
     ⊎ ((placed : List omf.Module) × HaveLocals (names_of job.ignore_case) (bytes_in modules) taken placed

@@ -1,5 +1,6 @@
 pub mod Aliases
 pub mod Chain
+pub mod Comdats
 pub mod Communals
 pub mod Joined
 pub mod Linked

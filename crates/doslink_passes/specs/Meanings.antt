@@ -1,5 +1,6 @@
 -- What names mean in modules, as it is held.
 use Rattle.std.specs.Prelude.{◌≡◌, ℕ, Bool, List, map}
+use Rattle.omf_comdat.specs.declared.fate.ComdatFate.{ComdatFate}
 use Rattle.omf_plain.specs.Plain.{Taking}
 use Rattle.omf_alias.specs.Meaning.{Renaming}
 use Rattle.omf_alias.specs.Said.{aliases_said}
@@ -21,6 +22,8 @@ pub record AreMeaningsFor {A : Type 0} (job : Job) (says : List Module) (given :
   pub says_so : map module_said m.says.now ≡ says
   pub aliases : aliases_said m.aliases.aliases.items ≡ link_aliases given
 
--- how the module of these bytes is taken by them
-abbrev pub taking_by : {A : Type 0} → (keep_debug : Bool) → Meanings A → (bytes : List ℕ) → Taking
-taking_by keep_debug m bytes = record { keep_debug = keep_debug; renaming = means m bytes }
+-- how the module of these bytes is taken by them, where this becomes of its COMDAT records
+abbrev pub taking_by : {A : Type 0} → (keep_debug : Bool) → Meanings A → (bytes : List ℕ) → (comdats : List ComdatFate)
+    → Taking
+taking_by keep_debug m bytes comdats =
+    record { keep_debug = keep_debug; renaming = means m bytes; comdats = comdats }

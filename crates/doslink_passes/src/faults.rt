@@ -68,6 +68,10 @@ fn is_taken_too(kind: u8) -> bool {
             | 0xB7
             | 0xB8
             | 0xBC
+            | 0xC2
+            | 0xC3
+            | 0xC4
+            | 0xC5
             | 0xC6
             | 0xCA
     )

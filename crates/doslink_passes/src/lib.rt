@@ -3,6 +3,7 @@
 
 mod aliases;
 mod chain;
+mod comdats;
 mod communals;
 mod faults;
 mod filled;
@@ -22,12 +23,13 @@ mod widths;
 
 pub use aliases::meanings_of;
 pub use chain::modules_of;
+pub use comdats::{fates_among, fates_at, fates_of};
 pub use communals::variables_of;
 pub use linked::{source_slices, source_words, word_at};
 pub use meanings::Meanings;
 pub use meant::packed;
 pub use names::said_names;
 pub use origin::{Linked, Source};
-pub use plain::plain_module;
+pub use plain::{How, plain_module};
 pub use request::{GivenModule, LinkRequest, names_of};
 pub use stop::{Stop, stop_after};

@@ -1,22 +1,24 @@
 //! The modules of a link as the fourteen types of records say them: records of 32 bits with 16, and communal variables
 //! as externals.
-ghost use Rattle.std.specs.Prelude.{◌≡◌, Any, IfErr, IfOk, map, MatchResult, Some};
+ghost use Rattle.std.specs.Prelude.{◌≡◌, length, MatchResult, Some};
 ghost use Rattle.std.specs.Option.{option_map};
 ghost use Rattle.omf_plain.specs.Modules.{IsPlainModule};
 ghost use Rattle.doslink_passes.specs.Meanings.{AreMeaningsFor, taking_by};
 ghost use Rattle.doslink_passes.specs.Names.{start_module};
 ghost use Rattle.doslink_passes.specs.Names as names;
-ghost use Rattle.doslink_passes.specs.Plain.{AreTaken, AreTakenFor, IsNoPlain, IsNotTaken, IsTaken};
+ghost use Rattle.doslink_passes.specs.Plain.{AreNotTaken, AreTaken, AreTakenFor, IsNoPlain, IsTaken, SomeIsNoPlain};
 ghost use Rattle.doslink_passes.specs.Request.{given_of, says_of};
 ghost use Rattle.doslink_passes.specs.Stops.{OnInput};
-ghost use Rattle.doslink_passes.specs.inside.Plains.{made_in, taking_in};
+ghost use Rattle.doslink_passes.specs.inside.Plains.{fates_in, made_in, takes_in};
 
 use crate::aliases::{check_aliases, own_aliases};
+use crate::comdats::{fates_at, fates_of};
 use crate::faults::tell_record;
 use crate::meanings::Meanings;
 use crate::names::start_bytes;
 use crate::request::{GivenModule, LinkRequest};
 use crate::stop::{Stop, stop_after};
+use omf_comdat::ComdatFate;
 use omf_module::{Module, without_start};
 use omf_plain::{PlainModule, PlainModuleFault, Widths, read_plain};
 use std::alloc::Allocator;
@@ -28,13 +30,24 @@ pub(crate) struct TakenModules<A: Allocator + Copy> {
     pub widths: Vec<Widths, A>,
 }
 
-/// How modules are taken.
+/// How a module is taken.
 #[derive(Clone, Copy)]
-struct How<'t, 's, 'r, 'h, 'a, A: Allocator + Copy> {
+pub struct How<'t, 'f, 'r, 'h, 'a, A: Allocator + Copy> {
     /// Whether what debuggers read is kept in the program.
-    keep_debug: bool,
+    pub keep_debug: bool,
+    /// What names mean in it.
+    pub meanings: &'t Meanings<'r, 'h, 'a, A>,
+    /// What becomes of its COMDAT records.
+    pub comdats: &'f [ComdatFate],
+}
+
+/// How the modules of a link are taken.
+#[derive(Clone, Copy)]
+struct HowAll<'t, 'f, 's, 'r, 'h, 'a, A: Allocator + Copy> {
     /// What names mean in them.
     meanings: &'t Meanings<'r, 'h, 'a, A>,
+    /// What becomes of the COMDAT records of each.
+    fates: &'f [Vec<ComdatFate, A>],
     /// The bytes of the module that says where the program starts, where one does.
     made: Option<&'s [u8]>,
 }
@@ -46,17 +59,26 @@ struct How<'t, 's, 'r, 'h, 'a, A: Allocator + Copy> {
 /// `Input`: the first record that none of the fourteen says, or that is at fault. `Memory`.
 pub fn plain_module<'a, A: Allocator + Copy>(
     alloc: A,
-    keep_debug: bool,
-    meanings: &Meanings<'_, '_, 'a, A>,
+    how: &How<'_, '_, '_, '_, 'a, A>,
     given: GivenModule<'_, 'a>,
     lines: &mut Vec<u8, A>,
 ) -> Result<PlainModule<A>, Stop>
     ensures { MatchResult result
-        (λ p. IsPlainModule (taking_by keep_debug meanings.now given.entry.bytes.now) given.entry.bytes.now p.module p.widths)
-        (λ stop. OnInput stop (IsNoPlain (taking_by keep_debug meanings.now given.entry.bytes.now) given.entry.bytes.now)) }
+        (λ p. IsPlainModule
+        (taking_by how.now.keep_debug how.now.meanings.now given.entry.bytes.now how.now.comdats.now)
+        given.entry.bytes.now p.module p.widths)
+        (λ stop. OnInput stop (IsNoPlain
+        (taking_by how.now.keep_debug how.now.meanings.now given.entry.bytes.now how.now.comdats.now)
+        given.entry.bytes.now)) }
 {
-    let aliases = own_aliases(alloc, meanings, given.bytes)?;
-    match read_plain(alloc, given.bytes, keep_debug, &aliases.renaming()) {
+    let aliases = own_aliases(alloc, how.meanings, given.bytes)?;
+    match read_plain(
+        alloc,
+        given.bytes,
+        how.keep_debug,
+        &aliases.renaming(),
+        how.comdats,
+    ) {
         Ok(plain) => Ok(plain),
         Err(PlainModuleFault::Memory) => Err(Stop::Memory),
         Err(PlainModuleFault::Record { place, why }) => {
@@ -89,15 +111,19 @@ fn started_by<A: Allocator + Copy>(
 fn taken_module<'a, A: Allocator + Copy>(
     alloc: A,
     how: &How<'_, '_, '_, '_, 'a, A>,
+    made: Option<&[u8]>,
     given: GivenModule<'_, 'a>,
     lines: &mut Vec<u8, A>,
 ) -> Result<PlainModule<A>, Stop>
     ensures { MatchResult result
-        (λ p. IsTaken (taking_in how.now) (made_in how.now) given.entry.bytes.now p.module p.widths)
-        (λ stop. OnInput stop (IsNoPlain (taking_in how.now given.entry.bytes.now) given.entry.bytes.now)) }
+        (λ p. IsTaken (taking_by how.now.keep_debug how.now.meanings.now) (option_map (λ b. b.now) made.entry)
+        given.entry.bytes.now how.now.comdats.now p.module p.widths)
+        (λ stop. OnInput stop (IsNoPlain
+        (taking_by how.now.keep_debug how.now.meanings.now given.entry.bytes.now how.now.comdats.now)
+        given.entry.bytes.now)) }
 {
-    let plain = plain_module(alloc, how.keep_debug, how.meanings, given, lines)?;
-    match how.made {
+    let plain = plain_module(alloc, how, given, lines)?;
+    match made {
         Some(made) => Ok(started_by(made, given.bytes, plain)),
         None => Ok(plain),
     }
@@ -107,21 +133,30 @@ fn taken_module<'a, A: Allocator + Copy>(
 fn all_taken<'a, A: Allocator + Copy>(
     alloc: A,
     request: &LinkRequest<'_, '_, '_, 'a, A>,
-    how: &How<'_, '_, '_, '_, 'a, A>,
+    all: &HowAll<'_, '_, '_, '_, '_, 'a, A>,
     lines: &mut Vec<u8, A>,
 ) -> Result<TakenModules<A>, Stop>
+    requires { length all.now.fates.now ≡ length request.now.handed.now }
     ensures { MatchResult result
-        (λ t. AreTaken (taking_in how.now) (made_in how.now) (given_of request.now) t.modules.items
-        t.widths.items)
-        (λ stop. OnInput stop (Any (λ bytes. IsNoPlain (taking_in how.now bytes) bytes)
-        (given_of request.now))) }
+        (λ t. AreTaken (takes_in request.now.job.now.keep_debug all.now) (made_in all.now) (given_of request.now)
+        (fates_in all.now) t.modules.items t.widths.items)
+        (λ stop. OnInput stop (SomeIsNoPlain (takes_in request.now.job.now.keep_debug all.now)
+        (given_of request.now) (fates_in all.now))) }
 {
     let mut modules = Vec::new(alloc);
     let mut widths = Vec::new(alloc);
-    for each in request.handed {
-        let bytes = each.entry.bytes;
-        let word = request.word(modules.len());
-        let plain = taken_module(alloc, how, GivenModule { bytes, word }, lines)?;
+    let handed = request.handed;
+    for (index, each) in handed.iter().enumerate() {
+        let given = GivenModule {
+            bytes: each.entry.bytes,
+            word: request.word(index),
+        };
+        let how = How {
+            keep_debug: request.job.keep_debug,
+            meanings: all.meanings,
+            comdats: fates_at(all.fates, index),
+        };
+        let plain = taken_module(alloc, &how, all.made, given, lines)?;
         modules.push(plain.module)?;
         widths.push(plain.widths)?;
     }
@@ -149,16 +184,15 @@ pub(crate) fn take_modules<'a, A: Allocator + Copy>(
     ensures { MatchResult result
         (λ t. AreTakenFor request.now.job.now (says_of request.now) (given_of request.now)
         t.modules.items t.widths.items)
-        (λ stop. OnInput stop (Any (IsNotTaken request.now.job.now (says_of request.now)
-        (given_of request.now)) (given_of request.now))) }
+        (λ stop. OnInput stop (AreNotTaken request.now.job.now (says_of request.now) (given_of request.now))) }
 {
     check_aliases(alloc, request, meanings, lines)?;
+    let fates = fates_of(alloc, request, lines)?;
     let start = start_bytes(alloc, request.job)?;
-    let made = lent_bytes(&start);
-    let how = How {
-        keep_debug: request.job.keep_debug,
+    let all = HowAll {
         meanings,
-        made,
+        fates: &fates,
+        made: lent_bytes(&start),
     };
-    all_taken(alloc, request, &how, lines)
+    all_taken(alloc, request, &all, lines)
 }

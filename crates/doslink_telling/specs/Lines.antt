@@ -129,6 +129,7 @@ obstacle_label obstacle.TooLong = (52, codes "TooLong")
 obstacle_label obstacle.EasyOmf = (63, codes "EasyOmf")
 obstacle_label obstacle.ImportedName = (64, codes "ImportedName")
 obstacle_label obstacle.FlatFrame = (65, codes "FlatFrame")
+obstacle_label obstacle.LateSegment = (80, codes "LateSegment")
 
 -- the line of a record that is none of the fourteen, by its place in its module
 abbrev pub obstacle_line : (word : List ℕ) (place : ℕ) → Obstacle → List ℕ

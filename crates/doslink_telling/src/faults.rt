@@ -206,6 +206,7 @@ fn obstacle_label(obstacle: Obstacle) -> (u8, &'static str)
         Obstacle::EasyOmf => (63, "EasyOmf"),
         Obstacle::ImportedName => (64, "ImportedName"),
         Obstacle::FlatFrame => (65, "FlatFrame"),
+        Obstacle::LateSegment => (80, "LateSegment"),
     }
 }
 

@@ -2,6 +2,7 @@
 //! behind a map.
 #![tactic(auto)]
 
+mod comdats;
 mod communals;
 mod duplicates;
 mod faults;
@@ -16,6 +17,7 @@ mod telling;
 mod wanting;
 mod warnings;
 
+pub use comdats::push_comdat_clash;
 pub use communals::{push_clash, push_entry_fault, push_unplaced};
 pub use duplicates::push_duplicates;
 pub use faults::{

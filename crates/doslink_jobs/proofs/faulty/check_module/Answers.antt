@@ -6,4 +6,4 @@ returns-in_err-plain_module g c =
     refused-exit _ c.from_residual.result _ c.from_residual.ensures.1 (λ none. none) c.in_err-plain_module.ensures
 
 pub returns : goal.returns
-returns g c = λ none. none _ _ c.in_ok-plain_module.ensures
+returns g c = (_, _, c.in_ok-plain_module.ensures)

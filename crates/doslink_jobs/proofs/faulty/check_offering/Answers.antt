@@ -3,30 +3,29 @@ use Rattle.std.proofs.lemmas.List.{take_all}
 use Rattle.doslink_passes.specs.Request.{given_of, says_of}
 use Rattle.doslink_passes.proofs.Refused.{refused-exit}
 use Rattle.doslink_telling.specs.declared.offering.Offering.{Offering}
-use Rattle.doslink_jobs.specs.Refusals.{IsFaulty}
-use Rattle.doslink_jobs.proofs.FaultyModules.{all-one, any-one, by-job}
+use Rattle.doslink_jobs.specs.inside.Suspects.{IsFaulty, IsReadable}
+use Rattle.doslink_jobs.proofs.FaultyModules.{all-one, any-one}
 use Rattle.doslink_jobs.proofs.faulty.check_offering.Goals as goal
+
+pub check_alone-requires : goal.check_alone-requires
+check_alone-requires g c = c.in_ok-meanings.ensures
 
 pub loop-each-preserved : goal.loop-each-preserved
 loop-each-preserved g c =
     let r = c.args.request.now in
-    all-one (λ bytes. IsFaulty r.job.now (says_of r) (given_of r) bytes → ⊥) (λ o. o.bytes.now) c.args.offering.now
-    c.loop-each.each-index _ c.loop-each-test.true c.loop-each.invariant
-    (by-job r.job.now (says_of r) (given_of r) c.in_ok-meanings.meanings _ (λ faulty. faulty → ⊥)
-    c.in_ok-meanings.ensures c.in_ok-check_module.ensures)
+    all-one (IsReadable r.job.now (says_of r) (given_of r)) (λ o. o.bytes.now) c.args.offering.now
+    c.loop-each.each-index _ c.loop-each-test.true c.loop-each.invariant c.in_ok-check_alone.ensures
 
 pub returns : goal.returns
 returns g c =
     let r = c.args.request.now in
-    subst (λ (hs : List Offering). All (λ bytes. IsFaulty r.job.now (says_of r) (given_of r) bytes → ⊥)
-    (map (λ o. o.bytes.now) hs)) (take_all c.loop-each.each-index c.args.offering.now (omega arith))
-    c.loop-each.invariant
+    subst (λ (hs : List Offering). All (IsReadable r.job.now (says_of r) (given_of r)) (map (λ o. o.bytes.now) hs))
+    (take_all c.loop-each.each-index c.args.offering.now (omega arith)) c.loop-each.invariant
 
-pub returns-in_err-check_module : goal.returns-in_err-check_module
-returns-in_err-check_module g c =
+pub returns-in_err-check_alone : goal.returns-in_err-check_alone
+returns-in_err-check_alone g c =
     let r = c.args.request.now in
-    refused-exit _ c.from_residual-in_err-check_module.result _ c.from_residual-in_err-check_module.ensures.1
+    refused-exit _ c.from_residual-in_err-check_alone.result _ c.from_residual-in_err-check_alone.ensures.1
     (λ faulty. any-one (IsFaulty r.job.now (says_of r) (given_of r)) (λ o. o.bytes.now) c.args.offering.now
-    c.loop-each.each-index _ c.loop-each-test.true
-    (by-job r.job.now (says_of r) (given_of r) c.in_ok-meanings.meanings _ (λ f. f) c.in_ok-meanings.ensures faulty))
-    c.in_err-check_module.ensures
+    c.loop-each.each-index _ c.loop-each-test.true faulty)
+    c.in_err-check_alone.ensures

@@ -1,6 +1,6 @@
 use Rattle.std.proofs.Common.{All, Any, inl, inr, map, subst}
 use Rattle.doslink_passes.specs.Request.{given_of, names_of, says_of}
-use Rattle.doslink_jobs.specs.Refusals.{IsFaulty}
+use Rattle.doslink_jobs.specs.inside.Suspects.{IsFaulty, IsReadable}
 use Rattle.doslink_jobs.proofs.FaultyModules.{offered-bytes}
 use Rattle.doslink_passes.proofs.Refused.{refused-exit}
 use Rattle.doslink_jobs.proofs.taking.tell_missing.Goals as goal
@@ -9,7 +9,7 @@ pub returns : goal.returns
 returns g c =
     let r = c.args.request.now in (
       c.in_ok-check_modules.ensures,
-      subst (All (λ bytes. IsFaulty r.job.now (says_of r) (given_of r) bytes → ⊥))
+      subst (All (IsReadable r.job.now (says_of r) (given_of r)))
           (offered-bytes c.deref-2.result.now c.in_ok-offering.offering.items c.names.result
           (names_of r.job.now.ignore_case) (map (λ w. w.name.now) c.args.missing.now) c.deref.result.now
           c.args.gathered.now.bytes.items c.deref-2.ensures.value c.in_ok-offering.ensures c.names.ensures

@@ -22,7 +22,7 @@ take_modules-requires g c = c.requires
 pub with_locals-requires : goal.with_locals-requires
 with_locals-requires g c =
     let r = c.args.request.now in
-    taking.as-many (taking_of r.job.now (says_of r) (given_of r)) (start_module r.job.now) (given_of r) _ _
+    taking.as-many (taking_of r.job.now (says_of r) (given_of r)) (start_module r.job.now) (given_of r) _ _ _
     c.in_ok-modules.ensures.taken
     ∙ length-map r.handed.now (λ h. (handed_held h).bytes)
 
@@ -49,7 +49,7 @@ invariant_of-linked g c =
       even = sym (length-map c.in_ok-sources.sources.items source_bytes) ∙ ap length c.in_ok-sources.ensures
           ∙ length-map r.handed.now (λ h. (handed_held h).bytes)
           ∙ sym (local.as-many names _ (given_of r) _ _ c.in_ok-modules-2.ensures
-          ∙ taking.as-many (taking_of r.job.now (says_of r) (given_of r)) (start_module r.job.now) (given_of r) _ _
+          ∙ taking.as-many (taking_of r.job.now (says_of r) (given_of r)) (start_module r.job.now) (given_of r) _ _ _
           c.in_ok-modules.ensures.taken
           ∙ length-map r.handed.now (λ h. (handed_held h).bytes));
     }
