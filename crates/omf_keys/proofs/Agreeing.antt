@@ -1,15 +1,15 @@
 -- Which names agree, and so which keys are one.
-use Rattle.std.proofs.Common.{◌≡◌, ◌&&◌, Bool, List, ℕ, true, false, nat_eq, length, refl, sym, ap, ◌∙◌}
+use Rattle.std.proofs.Common.{◌≡◌, ◌&&◌, ◌∷◌, Bool, List, ℕ, true, false, nat_eq, length, refl, sym, ap, ◌∙◌}
 use Rattle.std.specs.Borrow.{Bor}
 use Rattle.std.specs.Cmp.{IsEquivalence, nat_eq_equiv}
-use Rattle.std.specs.Cmp.Lexicographic.{as_long, on_texts_equal, texts_ties}
+use Rattle.std.specs.Cmp.Lexicographic.{as_long, bytes_decides, on_texts_equal, texts_ties}
 use Rattle.std.specs.Ordering.{is_eq}
 use Rattle.std.specs.Str.{bytes_eq}
 use Rattle.omf_place.specs.Names.{agrees, spelled}
 use Rattle.omf_place.specs.declared.names.Names.{Names}
 use Rattle.omf_place.specs.declared.names.Names.TheVariants.{Exact, AsciiFolded}
 use Rattle.omf_keys.specs.declared.key.Key.{Key}
-use Rattle.omf_keys.specs.Keys.{by_length, key_of, key_order, key_text, same_key}
+use Rattle.omf_keys.specs.Keys.{by_length, digest_of, key_of, key_order, key_text, same_key}
 
 pub names_agree : (names : Names) → IsEquivalence (agrees names)
 names_agree names = on_texts_equal (spelled names)
@@ -33,11 +33,20 @@ same_by_length xs ys =
     follows (bytes_eq xs ys) (nat_eq (length xs) (length ys))
     (λ e. ap (nat_eq (length xs)) (sym (as_long nat_eq xs ys e)) ∙ nat_eq_equiv.refl (length xs))
 
+-- and have one digest
+same_by_digest : (xs ys : List ℕ)
+    → bytes_eq (digest_of xs ∷ by_length xs) (digest_of ys ∷ by_length ys) ≡ bytes_eq xs ys
+same_by_digest xs ys =
+    ap (λ b. nat_eq (digest_of xs) (digest_of ys) && b) (same_by_length xs ys)
+    ∙ follows (bytes_eq xs ys) (nat_eq (digest_of xs) (digest_of ys))
+    (λ e. ap (λ zs. nat_eq (digest_of xs) (digest_of zs)) (sym ((bytes_decides xs ys).0 e))
+    ∙ nat_eq_equiv.refl (digest_of xs))
+
 -- keys of one choice are one where their names agree
 pub keys_agree : (names : Names) (x y : Bor (List ℕ))
     → same_key (key_of names x) (key_of names y) ≡ agrees names x.now y.now
-keys_agree Exact x y = same_by_length x.now y.now
-keys_agree AsciiFolded x y = same_by_length (spelled AsciiFolded x.now) (spelled AsciiFolded y.now)
+keys_agree Exact x y = same_by_digest x.now y.now
+keys_agree AsciiFolded x y = same_by_digest (spelled AsciiFolded x.now) (spelled AsciiFolded y.now)
 
 -- they stand at one place in their order then
 pub keys_stand : (names : Names) (x y : Bor (List ℕ))
