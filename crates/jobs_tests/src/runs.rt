@@ -3,6 +3,8 @@
 #[cfg(test)]
 mod aliasing;
 #[cfg(test)]
+mod comdats;
+#[cfg(test)]
 mod declaring;
 #[cfg(test)]
 mod defaulting;

@@ -1,7 +1,11 @@
 //! Modules as they are given, held against what they say in records of the fourteen.
 
 #[cfg(test)]
+mod comdats;
+#[cfg(test)]
 mod debug;
+#[cfg(test)]
+mod fates;
 #[cfg(test)]
 mod forms;
 #[cfg(test)]

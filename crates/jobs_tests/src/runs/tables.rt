@@ -42,11 +42,10 @@ doslink G.OBJ|0||doslink: warning: library \"NONE\" of G.OBJ was not found~
 doslink --keep-debug A.OBJ F.OBJ|0||
 doslink WIDE.OBJ|0||doslink: warning: 32-bit segments of WIDE.OBJ are linked as 16-bit ones~
 doslink AMISS.OBJ|1||doslink: AMISS.OBJ: 6 Body at record 13 byte 0~
-doslink COMDAT.OBJ|1||doslink: COMDAT.OBJ: 5 Type at record 30 (C2 COMDAT)~
-doslink A.OBJ COMDATS.LIB|1||doslink: COMDATS.LIB(f.c): 5 Type at record 30 (C2 COMDAT)~
+doslink STRAY.OBJ|1||doslink: STRAY.OBJ: 51 Body at record 30~
+doslink LATE.OBJ|1||doslink: LATE.OBJ: 80 LateSegment at record 44~
 doslink PATCHED.OBJ|1||doslink: PATCHED.OBJ: 5 Type at record 37 (B2 BAKPAT)~
 doslink PATCHED2.OBJ|1||doslink: PATCHED2.OBJ: 5 Type at record 14 (C9 NBKPAT)~
-doslink LINSYM.OBJ|1||doslink: LINSYM.OBJ: 5 Type at record 14 (C5 LINSYM)~
 doslink B9.OBJ|1||doslink: B9.OBJ: 5 Type at record 8 (B9)~
 doslink BE.OBJ|1||doslink: BE.OBJ: 5 Type at record 8 (BE)~
 doslink LOWERED.OBJ|1||doslink: LOWERED.OBJ: 16 FixupPlace at record 97~
@@ -101,6 +100,14 @@ doslink A.OBJ TABLE.OBJ|1||doslink: TABLE.OBJ: 54 DataType at record 8~
 doslink A.OBJ NEAR.OBJ LONG.OBJ|1||doslink: link: 57 NearTooLong \"g\" in LONG.OBJ~
 doslink A.OBJ NEAR.OBJ CUT.OBJ|1||doslink: link: 58 CutElement \"g\" in CUT.OBJ~
 doslink A.OBJ NEAR.OBJ MANY.OBJ|1||doslink: link: 59 TooManySegments \"g\" in MANY.OBJ~
+doslink COMDAT.OBJ|0||
+doslink A.OBJ COMDATS.LIB|0||
+doslink COMDAT.OBJ PICKED.OBJ|1||doslink: link: 25 DuplicatePublic \"f\" in COMDAT.OBJ and PICKED.OBJ~
+doslink PICKED.OBJ LONGER.OBJ LINSYM.OBJ|0||
+doslink PICKED.OBJ SIZED.OBJ MATCHED.OBJ|0||
+doslink LONGER.OBJ SIZED.OBJ|1||doslink: link: 78 ComdatSize \"f\" in LONGER.OBJ and SIZED.OBJ~
+doslink PICKED.OBJ OTHER.OBJ STRAY.OBJ|1||doslink: link: 79 ComdatData \"f\" in PICKED.OBJ and OTHER.OBJ~
+doslink MATCHED.OBJ LONGER.OBJ|1||doslink: link: 78 ComdatSize \"f\" in MATCHED.OBJ and LONGER.OBJ~
 doslink LOCAL.OBJ|0||
 doslink LOCAL.OBJ LOCAL.OBJ NEAR.OBJ|0||
 doslink LOCAL.OBJ A.OBJ F.OBJ|0||

@@ -145,7 +145,7 @@ pub(crate) const ARCHIVES: [(&str, &[u8]); 7] = [
 ];
 
 /// Further ones.
-pub(crate) const FURTHER_MODULES: [(&str, &[u8]); 59] = [
+pub(crate) const FURTHER_MODULES: [(&str, &[u8]); 66] = [
     ("PATCHED2.OBJ", &PATCHED_BY_NAME),
     ("LINSYM.OBJ", &LINSYM),
     ("B9.OBJ", &BESIDE_LCOMDEF),
@@ -205,4 +205,11 @@ pub(crate) const FURTHER_MODULES: [(&str, &[u8]); 59] = [
     ("ALFAR.OBJ", &super::declaring::FAR_BY_ALIAS),
     ("WEAKFAR.OBJ", &super::declaring::FAR_BY_WEAK),
     ("OWNFAR.OBJ", &super::declaring::LOCAL_FAR_OFFSET),
+    ("PICKED.OBJ", &super::comdats::PICKED),
+    ("LONGER.OBJ", &super::comdats::PICKED_LONGER),
+    ("SIZED.OBJ", &super::comdats::SIZED),
+    ("MATCHED.OBJ", &super::comdats::MATCHED),
+    ("OTHER.OBJ", &super::comdats::MATCHED_OTHERWISE),
+    ("STRAY.OBJ", &super::comdats::STRAY),
+    ("LATE.OBJ", &super::comdats::LATE_SEGMENT),
 ];

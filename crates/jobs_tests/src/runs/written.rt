@@ -2,7 +2,16 @@
 use super::packed::{FAR_PACKED, FAR_PACKED_MAP};
 
 /// Runs, and the end of the file that each writes: the whole of it, or its code, which calls `f` first.
-pub(crate) const PROGRAMS: [(&str, &[u8]); 38] = [
+pub(crate) const PROGRAMS: [(&str, &[u8]); 40] = [
+    // the first of the COMDATs that have a name
+    (
+        "doslink CALLS.OBJ PICKED.OBJ LONGER.OBJ",
+        &[0xE8, 0x00, 0x00, 0x90],
+    ),
+    (
+        "doslink CALLS.OBJ LONGER.OBJ PICKED.OBJ",
+        &[0xE8, 0x00, 0x00, 0x91, 0x92],
+    ),
     // null bytes in front of `_TEXT`, and none where the job asks for none
     (
         "doslink LOADS.OBJ",

@@ -58,6 +58,12 @@ C6
 --
 88 00 DA
 
+# LINSYM
+C4 00 02 05 00 10 00
+C5 00 02 05 00 10 00 00 00
+--
+88 00 DA
+
 # types that say nothing in the fourteen
 B2 01 01 00 00 05 00
 = record 2: no record of its type is linked
@@ -69,15 +75,6 @@ B9 01 61 00 62 02
 = record 2: no record of its type is linked
 
 BE 01 61
-= record 2: no record of its type is linked
-
-C3 00 00 00 00 00 00 00 00 00 01 02 AA
-= record 2: no record of its type is linked
-
-C4 00 02 05 00 10 00
-= record 2: no record of its type is linked
-
-C5 00 02 05 00 10 00 00 00
 = record 2: no record of its type is linked
 
 C8 01 02 00 00 05 00

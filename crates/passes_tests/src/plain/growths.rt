@@ -11,7 +11,7 @@ use std::test::*;
 
 /// What is read of a module, in memory of its own.
 fn told<A: Allocator + Copy>(own: A, alloc: Global, module: &[u8]) -> Result<String, Fail> {
-    match read_plain(own, module, false, &Renaming::none(Names::Exact)) {
+    match read_plain(own, module, false, &Renaming::none(Names::Exact), &[]) {
         Ok(answer) => Ok(module_text(alloc, &answer.module)?),
         Err(fault) => Ok(format!(in alloc; "{fault}")?),
     }

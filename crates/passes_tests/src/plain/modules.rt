@@ -1,9 +1,11 @@
 //! Modules that are read as they are given, held against those of the fourteen that say the same.
 
 use omf_alias::Renaming;
+use omf_comdat::{ComdatFate, comdat_fates, comdat_records};
 use omf_frame::MemSource;
 use omf_library::module_frames;
 use omf_module::{DataRecord, FaultKind, Module, ModuleFault, Start, read_module};
+use omf_place::Names;
 use omf_plain::{Obstacle, PlainModuleFault, RecordObstacle, read_plain};
 use rows::{Row, put_record};
 use std::alloc::{AllocError, Allocator, Global};
@@ -107,6 +109,25 @@ enum Told {
     Other,
 }
 
+/// What becomes of the COMDAT records of a module that is linked alone; none where those of one name clash.
+fn fates_of(alloc: Global, bytes: &[u8]) -> Result<Vec<ComdatFate>, Fail> {
+    let records = comdat_records(alloc, &module_frames(alloc, bytes)?)?;
+    let modules = vec![in alloc; records]?;
+    match comdat_fates(alloc, Names::Exact, &modules) {
+        Ok(mut fates) => Ok(fates.pop().unwrap_or(Vec::new(alloc))),
+        Err(_) => Ok(Vec::new(alloc)),
+    }
+}
+
+/// Whether a row's module has a record that isn't one of its type, or none that is linked.
+pub fn is_other(alloc: Global, row: &Row<'_>) -> Result<bool, Fail> {
+    let [module, ..] = row.inputs.as_slice() else {
+        return Ok(false);
+    };
+    let told = given(alloc, module, false, &Renaming::none(Names::Exact))?;
+    Ok(matches!(told, Told::Other))
+}
+
 /// What is read of a module as it is given.
 fn given(
     alloc: Global,
@@ -115,7 +136,8 @@ fn given(
     renaming: &Renaming<'_, '_>,
 ) -> Result<Told, Fail> {
     let bytes = whole(alloc, records)?;
-    match read_plain(alloc, &bytes, keep_debug, renaming) {
+    let fates = fates_of(alloc, &bytes)?;
+    match read_plain(alloc, &bytes, keep_debug, renaming, &fates) {
         Ok(answer) => Ok(Told::Text(module_text(alloc, &answer.module)?)),
         Err(PlainModuleFault::Record { why, .. }) => match why {
             RecordObstacle::Obstacle(Obstacle::OtherType)

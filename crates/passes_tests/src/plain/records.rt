@@ -29,7 +29,7 @@ fn taken_of<'a>(
     renaming: &Renaming<'a, 'a>,
 ) -> Result<String, Fail> {
     let mut text = String::new(alloc);
-    let mut pass = Pass::new(alloc, keep_debug, renaming);
+    let mut pass = Pass::new(alloc, keep_debug, renaming, &[]);
     for (number, frame) in module_frames(alloc, module)?.iter().enumerate() {
         let taken = match read_given(alloc, frame) {
             Ok(given) => pass.take(given),

@@ -10,7 +10,7 @@ use std::test::*;
 
 /// Whether a module is read as it is given.
 fn is_taken(alloc: Global, module: &[u8]) -> bool {
-    read_plain(alloc, module, false, &Renaming::none(Names::Exact)).is_ok()
+    read_plain(alloc, module, false, &Renaming::none(Names::Exact), &[]).is_ok()
 }
 
 /// Whether a module is read as it is given, and isn't as one of the fourteen.
