@@ -1,15 +1,15 @@
 """Answers of `doslink` that were written out by hand, from the rules alone.
 
 The model must give them. They are what the rules say of libraries, of the names of a module, of
-what is taken for them, of the module that fixes an order, of modules that are lowered, of communal
+what is taken for them, of the module that fixes an order, of modules that are lowered, of COMDATs, of communal
 variables, also local ones, of aliases, of weak and lazy externals, and of directives.
 """
 
 import functools
 
 from model import (
-    aliases, communal, directives, far_data, image, libraries, line_jobs, link_map, linking,
-    local, lowering, module, names, ordering, records, search, weak)
+    aliases, comdats, communal, directives, far_data, image, libraries, line_jobs, link_map, linking,
+    local, lowering, module, names, ordering, records, search, taking, weak)
 from model.directives import Form, Input, Job, Stack
 from model.faults import Fault
 from model.names import Names
@@ -1424,6 +1424,118 @@ GROUPED = [
      "AUTO 1, F0 2 T0 1"),
 ]
 
+# names of a module of COMDATs: f and F are the fourth and the fifth, and the sixth is a class
+F_LISTED = (0x96, "00 04434F4445 055F54455854 0166 0146 084641525F44415441")
+# records of f with what they say and their data: any is taken, one of the same size, one with the same data, none beside
+# another, and a local one, in a far segment; and one that goes on
+ANY, SIZED, EXACT, NONE, LOCAL = (
+    (0xC2, f"{flags} {attributes} 00 0000 00 04 4142") for flags, attributes in (
+        ("00", "11"), ("00", "21"), ("00", "31"), ("00", "01"), ("04", "11")))
+MORE = (0xC2, "01 11 00 0200 00 04 43")
+# title, the COMDATs of modules, whether case is ignored, and what becomes of each record, by the length that the opened
+# one has; or the fault, its name and the modules
+FATES = [
+    ("one", [[ANY]], False, "2"),
+    ("two modules", [[ANY], [ANY]], False, "2, left out"),
+    ("of any two the data counts for nothing", [[ANY], [(0xC2, "00 12 03 0000 00 04 FF")]], False, "2, left out"),
+    ("the first of three", [[ANY], [EXACT], [SIZED]], False, "2, left out, left out"),
+    ("twice in a module", [[ANY, ANY]], False, "2 left out"),
+    ("other names", [[ANY], [(0xC2, "00 11 00 0000 00 05 43")]], False, "2, 1"),
+    ("names that agree", [[ANY], [(0xC2, "00 11 00 0000 00 05 4142")]], True, "2, left out"),
+    ("the data of one size", [[SIZED], [(0xC2, "00 21 00 0000 00 04 FFFF")]], False, "2, left out"),
+    ("another size", [[SIZED], [(0xC2, "00 21 00 0000 00 04 FF")]], False, "78 f a b"),
+    ("another size of any", [[ANY], [(0xC2, "00 21 00 0000 00 04 FF")]], False, "78 f a b"),
+    ("another size of any behind it", [[SIZED], [(0xC2, "00 11 00 0000 00 04 FF")]], False, "78 f a b"),
+    ("another size, from an offset on", [[SIZED], [(0xC2, "00 21 00 0100 00 04 4142")]], False, "78 f a b"),
+    ("the same data", [[EXACT], [EXACT]], False, "2, left out"),
+    ("the same data by an offset of 32 bits", [[EXACT], [(0xC3, "00 31 00 00000000 00 04 4142")]], False,
+     "2, left out"),
+    ("other data", [[EXACT], [(0xC2, "00 31 00 0000 00 04 4143")]], False, "79 f a b"),
+    ("other data of any", [[ANY], [(0xC2, "00 31 00 0000 00 04 4143")]], False, "79 f a b"),
+    ("another size and other data", [[EXACT], [(0xC2, "00 31 00 0000 00 04 41")]], False, "78 f a b"),
+    ("the same bytes in two records", [[EXACT, MORE], [(0xC2, "00 31 00 0000 00 04 414243")]], False, "79 f a b"),
+    ("the same bytes, but repeated", [[EXACT], [(0xC2, "02 31 00 0000 00 04 4142")]], False, "79 f a b"),
+    ("as the later one spells it", [[EXACT], [(0xC2, "00 31 00 0000 00 05 4143")]], True, "79 F a b"),
+    ("held against the first", [[ANY], [(0xC2, "00 11 00 0000 00 04 FF")], [SIZED]], False, "2, left out, left out"),
+    ("the third", [[ANY], [SIZED], [(0xC2, "00 21 00 0000 00 04 FF")]], False, "78 f a c"),
+    ("no other one", [[NONE], [ANY]], False, "2, 2"),
+    ("no other one behind it", [[ANY], [NONE], [ANY]], False, "2, 2, left out"),
+    ("local ones", [[LOCAL], [LOCAL], [LOCAL]], False, "2, 2, 2"),
+    ("a local one before others", [[LOCAL], [(0xC2, "00 31 00 0000 00 04 FF")], [EXACT]], False, "78 f b c"),
+    ("one that goes on", [[ANY, MORE], [ANY, MORE]], False, "3 continues, left out left out"),
+    ("the greatest end counts", [[ANY, MORE, (0xC2, "01 11 00 0100 00 04 43")]], False, "3 continues continues"),
+    ("one that goes on with nothing", [[MORE, ANY]], False, "stray 2"),
+    ("one that goes on with another name", [[ANY, (0xC2, "01 11 00 0200 00 05 43"), MORE]], False, "2 stray stray"),
+    ("in another case", [[ANY, (0xC2, "01 11 00 0200 00 05 43")]], True, "2 stray"),
+    ("its length counts for nothing", [[SIZED, (0xC2, "01 11 00 0200 00 05 43")], [SIZED]], False, "2 stray, left out"),
+    ("what is cut, or has no name, is none", [[(0xC2, "00 11 00 0000 00"), (0xC2, "00 11 00 0000 00 07"), ANY]], False,
+     "2"),
+]
+# segments of code, of data that is common, and of a class for debuggers; a byte of the first; and what says nothing
+OF_CODE, OF_COMMON, OF_DEBUG = (0x98, "68 0500 03 02 01"), (0x98, "38 0500 03 02 01"), (0x98, "28 0500 03 07 01")
+HALF, KEPT = (0xA0, "01 0000 90"), (0x88, "00DA")
+# title, records behind the names, what becomes of the COMDATs, and the records that they are taken as, or the fault and
+# how many stand before it
+TAKEN = [
+    ("far code", [ANY], [2], [(0x98, "60 0200 04 02 00"), (0x90, "00 01 0166 0000 00"), (0xA0, "01 0000 4142")]),
+    ("far data, of a byte's alignment", [(0xC2, "00 12 01 0000 00 04 4142")], [2], [
+        (0x98, "20 0200 04 06 00"), (0x90, "00 01 0166 0000 00"), (0xA0, "01 0000 4142")]),
+    ("code of 32 bits, with a type", [(0xC3, "00 13 05 01000000 8123 04 4142")], [3], [
+        (0x98, "A0 0300 04 02 00"), (0x90, "00 01 0166 0000 8123"), (0xA0, "01 0100 4142")]),
+    ("a local one", [LOCAL], [2], [
+        (0x98, "60 0200 04 02 00"), (0xB6, "00 01 0166 0000 00"), (0xA0, "01 0000 4142")]),
+    ("in the segment of a base", [OF_CODE, (0xC2, "00 10 00 0000 00 01 01 04 4142")], [2], [
+        OF_CODE, (0x98, "68 0200 03 02 01"), (0x90, "01 02 0166 0000 00"), (0xA0, "02 0000 4142")]),
+    ("of another alignment", [OF_CODE, (0xC2, "00 10 02 0000 00 00 01 04 4142")], [2], [
+        OF_CODE, (0x98, "48 0200 03 02 01"), (0x90, "00 02 0166 0000 00"), (0xA0, "02 0000 4142")]),
+    ("in a common segment", [OF_COMMON, (0xC2, "00 10 00 0000 00 00 01 04 4142")], [2], [
+        OF_COMMON, (0x98, "28 0200 03 02 01"), (0x90, "00 02 0166 0000 00"), (0xA0, "02 0000 4142")]),
+    ("of 65,536 bytes", [(0xC2, "00 11 00 FFFF 00 04 41")], [65_536], [
+        (0x98, "62 0000 04 02 00"), (0x90, "00 01 0166 0000 00"), (0xA0, "01 FFFF 41")]),
+    ("of a byte more", [(0xC2, "00 11 00 FFFF 00 04 4142")], [65_537], (49, 2)),
+    ("nothing behind 65,535", [(0xC3, "00 11 00 00000100 00 04")], [65_536], (49, 2)),
+    ("with data between", [OF_CODE, ANY, HALF, MORE], [3, "continues"], [
+        OF_CODE, (0x98, "60 0300 04 02 00"), (0x90, "00 02 0166 0000 00"), (0xA0, "02 0000 4142"), HALF,
+        (0xA0, "02 0200 43")]),
+    ("what is left out, and fix-ups behind it", [OF_CODE, ANY, (0x9C, "02 01 C400 54 01"), HALF, (0x9C, "C400 5C")],
+     ["left out"], [OF_CODE, KEPT, (0x9C, "02 01"), HALF, (0x9C, "C400 5C")]),
+    ("fix-ups behind what is taken", [OF_CODE, ANY, (0x9C, "C400 54 01")], [2], [
+        OF_CODE, (0x98, "60 0200 04 02 00"), (0x90, "00 02 0166 0000 00"), (0xA0, "02 0000 4142"),
+        (0x9C, "C400 54 01")]),
+    ("what debuggers read, and a segment behind it", [
+        (0x96, "054457415246"), OF_DEBUG, (0xC2, "00 10 00 0000 00 00 01 04 4142"), (0x9C, "C400 54 01"), OF_CODE, ANY],
+     [2, 2], [
+        (0x96, "054457415246"), (0x98, "20 0000 03 07 01"), KEPT, (0x9C, ""), OF_CODE, (0x98, "60 0200 04 02 00"),
+        (0x90, "00 03 0166 0000 00"), (0xA0, "03 0000 4142")]),
+    ("line numbers", [(0xC4, "00 04 0100 0000"), (0xC5, "01 04 0100 00000000")], [], [KEPT, KEPT]),
+    ("line numbers that are cut", [(0xC5, "01 04 0100 0000")], [], (51, 2)),
+    ("a segment behind one", [ANY, OF_CODE], [2], (80, 3)),
+    ("a segment behind one that is left out", [ANY, OF_CODE], ["left out"], [KEPT, OF_CODE]),
+    ("one that goes on with another name", [MORE], ["stray"], (51, 2)),
+    ("what is repeated", [(0xC2, "02 11 00 0000 00 04 4142")], [2], (5, 2)),
+    ("what is repeated and left out", [(0xC2, "02 11 00 0000 00 04 4142")], ["left out"], [KEPT]),
+    ("a frame", [(0xC2, "00 10 00 0000 00 00 00 00B8 04 4142")], [2], (5, 2)),
+    ("no segment", [OF_CODE, (0xC2, "00 10 00 0000 00 00 02 04 4142")], [2], (51, 3)),
+    ("no segment of the group FLAT", [
+        (0x96, "04464C4154"), (0x9A, "07"), (0xC2, "00 10 00 0000 00 01 01 04 4142")], [2], (65, 4)),
+    ("a segment that another one has", [ANY, (0xC2, "00 10 00 0000 00 00 01 04 4142")], [2, 2], (51, 3)),
+    ("what is too long before a frame", [(0xC2, "00 10 00 FFFF 00 00 00 00B8 04 4142")], [65_537], (49, 2)),
+    ("the group FLAT", [
+        (0x96, "04464C4154"), (0x9A, "07"), OF_CODE, (0xC2, "00 10 00 0000 00 01 01 04 4142")], [2], (65, 5)),
+    ("a number below 0", [OF_CODE, (0xC2, "00 11 00 0000 00 04 FCFFFFFF"), (0x9C, "E400 54 01")], [4], (49, 4)),
+    ("what is cut", [(0xC2, "00 11 00 0000 00")], [], (51, 2)),
+    ("another way to choose", [(0xC2, "00 41 00 0000 00 04 4142")], [], (51, 2)),
+    ("without a fate", [ANY], [], (5, 2)),
+]
+# two modules that have one function, of which the first calls it: its byte is that of the first, in a paragraph of its
+# own
+HAS_F = [(0x80, "0141"), F_LISTED, (0x98, "28 0500 03 02 01"), (0x8C, "0166 00"), (0xA0, "01 0000 9A00000000"),
+         (0x9C, "CC01 56 01"), (0xC2, "00 11 00 0000 00 04 CB"), (0x8A, "00")]
+HAS_IT_TOO = [(0x80, "0142"), F_LISTED, (0xC2, "00 11 00 0000 00 04 90CB"), (0x9C, "C400 54 01"), (0x8A, "00")]
+# the modules in either order, the table of relocations, and what is in memory
+WITH_ONE_F = [
+    (["a", "b"], "03000000", "9A 0000 0100" + "00" * 11 + "CB"), (["b", "a"], "05000000", "90CB 9A 0000 0000")]
+
 
 def members_of(content):
     """The place, length and name of each member, or the fault and its place."""
@@ -1592,6 +1704,47 @@ def grouped(made):
     told = [" ".join([each.name.decode(), *map(str, each.segments)]) for each in found.groups]
     told += [f"{each.name.decode()} {each.group} {each.segment}" for each in found.publics]
     return ", ".join(told + told_references(found))
+
+
+def fates_of(bodies, ignores_case):
+    """What becomes of the COMDATs of modules of these, or their fault."""
+    made = [
+        linking.Module(word, framed([(0x80, "0141"), F_LISTED, *records, END]), Names())
+        for word, records in zip("abc", bodies)]
+    try:
+        found = comdats.fates(made, search.agreed(ignores_case))
+    except Fault as fault:
+        return f"{fault.number} {fault.name.decode()} {' '.join(fault.words)}"
+    return ", ".join(" ".join(map(str, each)) for each in found)
+
+
+def taken_of_comdats(made, fates):
+    """The bytes of records that are taken, of which it is known what becomes of COMDATs; or the fault and how many
+    records stand before it."""
+    front, fault = taking.front_of(framed(made), False, lowering.itself, fates)
+    if fault is None:
+        return front
+    places = [len(framed(made[:count])) for count in range(len(made))]
+    return fault.number, places.index(fault.place)
+
+
+def check_comdats():
+    for title, modules, ignores_case, wanted in FATES:
+        assert fates_of(modules, ignores_case) == wanted, (title, fates_of(modules, ignores_case))
+    front = [(0x80, "0141"), F_LISTED]
+    for title, made, fates, wanted in TAKEN:
+        wanted = wanted if isinstance(wanted, tuple) else framed([*front, *wanted, END])
+        found = taken_of_comdats([*front, *made, END], fates)
+        assert found == wanted, (title, found.hex() if isinstance(found, bytes) else found)
+    # the record that a fault of a later one stands at
+    made, wanted = [*front, ANY, HALF, END], [*front, *TAKEN[0][3], HALF, END]
+    for number, own in enumerate([0, 1, 2, 2, 2, 3, 4]):
+        place = lowering.own_place(framed(made), framed(wanted), len(framed(wanted[:number])))
+        assert place == len(framed(made[:own])), number
+    files = {"a": framed(HAS_F), "b": framed(HAS_IT_TOO)}
+    for names, table, wanted in WITH_ONE_F:
+        program = linking.link(Job(given(names), "out"), files).files["out"]
+        assert program[28:] == bytes.fromhex(table + wanted), (names, program.hex())
 
 
 def check_far_data():
@@ -1790,6 +1943,7 @@ def check():
     check_search()
     check_order()
     check_lowering()
+    check_comdats()
     check_far_data()
     check_aliases()
     check_defaults()

@@ -5,6 +5,7 @@ from itertools import groupby
 from random import Random
 from typing import Optional
 
+from generator import comdats
 from generator.communals import (
     LOCATIONS, NO_NUMBERS, OWN, REACHING, Declared, at_limit, module_of_communals, module_of_local_variables,
     module_of_no_number)
@@ -274,6 +275,8 @@ MISNAMED_EVERY, BY_DOS_EVERY = 50, 50
 EMPTY_EVERY, EMPTY_STACKS = 50, [[0], [0, 0], [0, 1], [1, 0], [0, 0, 0]]
 # one has far variables, and fix-ups that have their offsets, and their frames or others
 REACHED_EVERY = 50
+# and one has COMDATs
+COMDATS_EVERY = 25
 # lines that ask for something else than the rest, or say it once more
 OTHER_LINES = [
     "name two.exe", "option nocaseignore", "option noignorecase", "option nocaseexact",
@@ -449,6 +452,37 @@ class JobMaker:
         """Any modules, each with such a default among the rest."""
         self.plan.has_local_defaults = True
         return self.make()
+
+    def make_with_comdats(self):
+        """Any modules, of which most have some of the same COMDATs, and few have aliases or what no link takes."""
+        self.plan.comdats = comdats.some(self.random, self.names)
+        self.plan.has_others, self.plan.has_aliases = self.plan.has_others / 4, self.plan.has_aliases / 4
+        return self.make()
+
+    def make_shared_comdats(self):
+        """Modules, and members of a library, of which most have some of the same COMDATs and little else."""
+        plan = self.plan
+        plan.comdats, plan.is_wide = comdats.some(self.random, self.names), self.random.choice([0, 0, 0.6])
+        plan.wants_marks = plan.has_others = plan.has_long = plan.has_communals = plan.has_aliases = 0
+        plan.has_defaults, self.job.map = 0, MAP
+        made = [
+            ObjectMaker(self.random, plan, [], [] if number else self.names).make(b"%d" % number)
+            for number in range(self.random.choice([2, 3, 3, 4]))]
+        count = self.random.choice([2, 2, 3])
+        if made[count:]:
+            self.files["0.lib"] = library(self.random, made[count:], SMALL_PAGES)
+            self.give_library("0.lib")
+        return self.asked_of(made[:count])
+
+    def make_comdats(self, modules):
+        """Modules of COMDATs, mostly in their order."""
+        self.folders, self.job.map = [], MAP
+        self.job.keeps_debug = self.happens(0.1) and not self.has_lines
+        modules = self.random.sample(modules, len(modules)) if self.happens(0.2) else modules
+        for number, content in enumerate(modules):
+            self.files[f"{number}.obj"] = content
+            self.give(f"{number}.obj")
+        return self.asked()
 
     def make_renamed(self, kind):
         """An alias that a module names by a record of a type, beside publics of both names."""
@@ -1712,6 +1746,10 @@ MADE = [
     (BY_DOS_EVERY, 12, in_turn(JobMaker.make_by_dos, [tuple(words) for words in BY_DOS_WORDS])),
     (EMPTY_EVERY, 35, in_turn(JobMaker.make_empty_stacks, [(lengths,) for lengths in EMPTY_STACKS])),
     (REACHED_EVERY, 32, in_turn(JobMaker.make_reached, [(locations,) for locations in REACHING])),
+    (COMDATS_EVERY, 3, in_turn(JobMaker.make_comdats, [(modules,) for modules in comdats.CASES])),
+    (COMDATS_EVERY, 11, in_turn(JobMaker.make_with_comdats)),
+    (COMDATS_EVERY, 15, in_turn(JobMaker.make_shared_comdats)),
+    (COMDATS_EVERY, 23, in_turn(JobMaker.make_shared_comdats)),
 ]
 
 
@@ -1790,6 +1828,7 @@ MORE_LINES = [
     *[(JobMaker.make_map, TLINK, options) for options in ("/s", "/s/l", "/l/s", "/s/m", "/s", "/s")],
     *[(JobMaker.make_paged, page) for page in (8, 16, 32_768, 65_536)],
     *[(JobMaker.make_communal_data, kind, allocation) for kind in (0xC2, 0xC3) for allocation in (0, 1)],
+    *[(JobMaker.make_comdats, modules) for modules in comdats.CASES],
     (JobMaker.make_later,), (JobMaker.make_all_left_out,), (JobMaker.make_defined_over,),
     (JobMaker.make_cases, TLINK, False, ["/c/c-"]), (JobMaker.make_whole_part,)]
 MORE_WORDS = [

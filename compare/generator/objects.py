@@ -6,6 +6,7 @@ Most link; a module of another plan has records that no link takes, and that nam
 from dataclasses import dataclass, field, replace
 
 from generator import communals
+from generator.comdats import ComdatMaker
 from generator.spelling import RandomSpelling, reclosed
 from generator.widening import widened
 from model import records
@@ -68,6 +69,9 @@ class Plan:
     # names of communal variables, and those that some module declares
     communals: list = field(default_factory=list)
     declared: list = field(default_factory=list)
+    # COMDATs that modules share, and the names of those that some module has
+    comdats: list = field(default_factory=list)
+    shared: list = field(default_factory=list)
 
 
 def segments_called(names):
@@ -143,12 +147,17 @@ class ObjectMaker:
         if self.happens(self.plan.has_others):
             steps += self.random.sample([
                 self.add_communal_externals, self.add_publics_of_32_bits, self.add_communal_data,
-                self.add_aliases, self.add_names_without_type],
+                self.add_aliases, self.add_names_without_type, self.add_patches],
                 self.random.randrange(1, 4))
+        comdats = ComdatMaker(self) if self.plan.comdats else None
+        steps += [comdats.define_externals] if comdats else []
         self.random.shuffle(steps)
         for step in steps:
             step()
-        self.add_data()
+        behind = [self.add_data] + ([comdats.add_all] if comdats else [])
+        self.random.shuffle(behind)
+        for step in behind:
+            step()
         if self.debug:
             self.add_debug_data()
         start = Reference(Direct(Method.SEGMENT, 1), Direct(Method.SEGMENT, 1), 0)
@@ -378,6 +387,11 @@ class ObjectMaker:
             attributes = self.random.choice([0, 0x10]) | allocation
             front = bytes([flags, attributes, 1]) + bytes(width) + b"\0"
             self.add_other(kind, front + base + self.spelling.index(index) + bytes(3))
+
+    def add_patches(self):
+        """Changes of data, by a type of record that no link takes."""
+        kind = self.random.choice([0xB2, 0xB3, 0xC8, 0xC9])
+        self.add_other(kind, b"\1\1" + bytes(8 if kind & 1 else 4))
 
     def define_aliases(self):
         """Aliases of names, mostly of those that modules offer, and rarely one of itself."""

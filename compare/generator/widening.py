@@ -9,6 +9,7 @@ from generator.spelling import RandomSpelling, pieces
 
 # of each of these types the one with numbers of 32 bits is the next
 ENDS, PUBLICS, LINES = 0x8A, (0x90, 0xB6), 0x94
+COMDATS = (0xC2, 0xC3)
 SEGMENTS, LEDATA, LIDATA, FIXUPS = 0x98, 0xA0, 0xA2, 0x9C
 EXTERNALS, LOCAL_EXTERNALS = 0x8C, 0xB4
 LIKELY = 0.6
@@ -62,6 +63,10 @@ class Widening:
             return self.widen_data(kind, reader)
         if kind == FIXUPS:
             return self.widen_fixups(reader)
+        if kind in COMDATS:
+            # fix-ups behind it are of its data
+            self.moved, self.is_wide = {}, False
+            return kind, body
         if not self.happens(LIKELY):
             return kind, body
         if kind == 0x80:

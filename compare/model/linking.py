@@ -10,7 +10,7 @@ from os.path import normpath
 from typing import Optional
 
 from model import (
-    communal, directives, faults, foreign, forms, image, libraries, line_jobs, line_numbers, lines, link_map,
+    comdats, communal, directives, faults, foreign, forms, image, libraries, line_jobs, line_numbers, lines, link_map,
     local, lowering, module, naming, ordering, parts, printing, search, stack, taking)
 from model.commands import Answer, Output
 from model.directives import Form
@@ -492,17 +492,19 @@ class Linking:
             yield each.name, line
 
     def check_foreign(self):
-        """The first file or member that begins as no module does has its own fault."""
+        """The first file or member that begins as no module does has its own fault; COMDATs that clash come first."""
         places = [place for place, each in enumerate(self.taken) if foreign.kind_of(each.content) is not None]
-        means = plain_meanings(self.taken, [], self.key) if places else []
+        if places:
+            means, fates = plain_meanings(self.taken, [], self.key), comdats.fates(self.taken, self.key)
         for place in places:
-            self.check_module(self.taken[place], means[place])
+            self.check_module(self.taken[place], means[place], fates[place])
 
     def check_modules(self, variables):
-        """The first module that can't be lowered or read has its own fault."""
+        """The first module that can't be lowered or read has its own fault; COMDATs that clash come first."""
         means = plain_meanings(self.taken, variables, self.key)
-        for each, own in zip(self.taken, means):
-            self.check_module(each, own)
+        fates = comdats.fates(self.taken, self.key)
+        for each, *own in zip(self.taken, means, fates):
+            self.check_module(each, *own)
 
     def check_offering(self, variables, missing):
         """The first member with a fault that a symbol table says to have one of these names."""
@@ -514,13 +516,13 @@ class Linking:
                     each = Module(
                         f"{path}({escaped(member.name)})", member.content, names_of(member.content))
                     *_, own = plain_meanings([*self.taken, each], variables, self.key)
-                    self.check_module(each, own)
+                    self.check_module(each, own, *comdats.fates([each], self.key))
 
-    def check_module(self, each, own):
+    def check_module(self, each, own, own_fates):
         """A module that can't be lowered or read has its own fault."""
         self.contents, self.handed = [each.content], [each]
         try:
-            taking.taken_modules([each.content], self.job.keeps_debug, [own])
+            taking.taken_modules([each.content], self.job.keeps_debug, [own], [own_fates])
         except Fault as fault:
             raise self.with_words(fault) from None
 
@@ -529,9 +531,10 @@ class Linking:
         that are made."""
         taken = self.taken
         means = meanings(taken, variables, self.key)
+        fates = comdats.fates(taken, self.key)
         self.contents, self.handed = [each.content for each in taken], taken
         try:
-            lowered = taking.taken_modules(self.contents, self.job.keeps_debug, means)
+            lowered = taking.taken_modules(self.contents, self.job.keeps_debug, means, fates)
         except Fault as fault:
             raise self.with_words(fault) from None
         lowered = self.with_start(lowered)
@@ -547,7 +550,8 @@ class Linking:
         self.contents = [each.content for each in before] + contents
         self.handed = before + taken + behind
         # of each fix-up that had 32 bits, the upper word of the number there
-        upper_words = [lowering.upper_words(each.content, self.job.keeps_debug) for each in taken]
+        upper_words = [
+            comdats.upper_words(each.content, self.job.keeps_debug, own) for each, own in zip(taken, fates)]
         upper_words = [[] for _ in before] + upper_words + [[] for _ in behind]
         wide_start = any(lowering.has_wide_start(each.content) for each in taken)
         defined = defined_names(taken, variables, self.key)
@@ -601,7 +605,7 @@ class Linking:
         """Segments of 32 bits are linked as ones of 16, which is told."""
         words = [
             each.word for each, content in zip(self.taken, contents)
-            if lowering.has_wide_segments(each.content, content)]
+            if lowering.has_wide_segments(each.content, content) or comdats.has_wide_comdats(each.content, content)]
         lines = [] if self.job.is_quiet else [
             f"{PROGRAM}: warning: 32-bit segments of {word} are linked as 16-bit ones\n"
             for word in words]

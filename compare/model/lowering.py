@@ -17,6 +17,8 @@ from model.records import LONGEST_BODY, Spelling
 SEGMENTS, DATA = (0x98, 0x99), (0xA0, 0xA1, 0xA2, 0xA3)
 REPEATED = (0xA2, 0xA3)
 FIXUPS, COMMUNAL_DATA = (0x9C, 0x9D), (0xC2, 0xC3)
+# line numbers of COMDATs, and the bit by which they go on with those before
+COMMUNAL_LINES, LINES_CONTINUED = (0xC4, 0xC5), 1
 PUBLICS_32, LINES_32, END_32 = (0x91, 0xB7), 0x95, 0x8B
 # public names, and those that are local
 PUBLICS = (0x90, 0x91, 0xB6, 0xB7)
@@ -78,6 +80,8 @@ class Data:
     is_repeated: bool = False
     width: int = 2
     stored: bytes = b""
+    # whether numbers of 32 bits in it may be negative
+    has_negative: bool = True
 
 
 def width_of(kind):
@@ -288,6 +292,8 @@ class Lowering:
             while entries.has_more():
                 entries.name(), entries.name()
             return COMMENT, NOTHING
+        if kind in COMMUNAL_LINES:
+            return self.check_communal_lines(entries, width_of(kind))
         if kind == COMMENT:
             self.look_at_comment(body)
         if kind == EXTERNALS and self.has_alias(Entries(body)):
@@ -310,6 +316,15 @@ class Lowering:
         if kind == END_32:
             return kind - 1, self.end(entries)
         return SAME.get(kind, kind), body
+
+    def check_communal_lines(self, entries, width):
+        """Line numbers of a COMDAT say nothing, where they are some."""
+        if entries.byte() > LINES_CONTINUED:
+            raise Obstacle(BODY)
+        entries.index()
+        while entries.has_more():
+            entries.bytes(2 + width)
+        return COMMENT, NOTHING
 
     def look_at_comment(self, body):
         """Comments that ask for what no program for DOS has."""
@@ -529,10 +544,11 @@ class Lowering:
         return bytes([first & 0xC0 | location << 2 | place >> 8, place & 0xFF])
 
     def upper_word(self, place, stored):
-        """That of a number at a place: 0, or of a negative one, where no copies are made of it and
-        a fix-up can stand at its upper word."""
+        """That of a number at a place: 0, or of a negative one, where no copies are made of it, it is in no
+        COMDAT and a fix-up can stand at its upper word."""
         is_negative = stored[2:4] == NEGATIVE
-        if is_negative and not self.data.is_repeated and place + 2 <= LAST_PLACE:
+        may_be = self.data.has_negative and not self.data.is_repeated
+        if is_negative and may_be and place + 2 <= LAST_PLACE:
             return 0xFFFF
         narrowed(stored[:4])
         return 0
@@ -585,11 +601,23 @@ def is_wide_segment(own, linked):
         linked.body[0] & BIG != 0 or any(linked.body[1:3]))
 
 
+def paired(content, lowered_content):
+    """Each record of a module, with those of the lowered module that say the same."""
+    linked = list(whole_frames(lowered_content))
+    for own in whole_frames(content):
+        # a COMDAT that is taken is a segment, a name and data
+        count = 3 if own.kind in COMMUNAL_DATA and linked[:1] and linked[0].kind == SEGMENTS[0] else 1
+        while count < len(linked) and goes_on(*linked[count - 1:count + 1]):
+            count += 1
+        yield own, linked[:count]
+        linked = linked[count:]
+
+
 def has_wide_segments(content, lowered_content):
     """Whether a module has segments of 32 bits that are linked as ones of 16."""
     if content == lowered_content:
         return False
-    return any(map(is_wide_segment, whole_frames(content), whole_frames(lowered_content)))
+    return any(is_wide_segment(own, linked[0]) for own, linked in paired(content, lowered_content))
 
 
 def record_places(content):
@@ -608,11 +636,13 @@ def own_place(content, lowered_content, place):
     """
     if content == lowered_content:
         return place
-    number = list(record_places(lowered_content)).index(place)
-    own, frames = len(list(whole_frames(content))), list(whole_frames(lowered_content))
-    if own < len(frames):
-        number = min(number - sum(map(goes_on, frames[:number], frames[1:number + 1])), own - 1)
-    return list(record_places(content))[number]
+    number, own = list(record_places(lowered_content)).index(place), 0
+    is_record = number < len(list(whole_frames(lowered_content)))
+    for _, linked in paired(content, lowered_content):
+        if number < len(linked):
+            break
+        number, own = number - len(linked), own + 1
+    return list(record_places(content))[min(own, len(list(whole_frames(content))) - is_record)]
 
 
 def goes_on(frame, behind):

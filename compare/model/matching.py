@@ -7,7 +7,7 @@ has models of its own. Where segments stand is looked for by itself, at all plac
 import re
 from dataclasses import replace
 
-from model import lowering, module, parsing, programs, showing
+from model import comdats, lowering, module, parsing, programs, showing
 from model.faults import DOSLINK_NAMES, NAMES, Fault
 from model.listing import COMDEF, LIBRARY, MEMBERS, UNREAD, Answer, kind_of, quoted, record_at
 from model.records import Direct, Location, Method
@@ -18,6 +18,7 @@ MOST_PLACES, LEAST_KNOWN = 16, 8
 NO_END, TYPE, BODY, NO_SAYING = 8, 5, 6, 51
 # faults of COMDEF, by those of other records
 OF_COMMUNALS = {48: 54, NO_SAYING: 53}
+OF_COMDATS = [bytes([kind]) for kind in (*lowering.COMMUNAL_DATA, *lowering.COMMUNAL_LINES)]
 AS_LISTED = {2: 43, 3: 44, 4: 45, NO_END: 44, 41: 41}
 OF_HEADERS = (46, 47)  # of an archive
 TARGETS = {Method.SEGMENT: ("segment", "segments"), Method.GROUP: ("group", "groups"),
@@ -52,8 +53,12 @@ def read_lowered(content, bytes_of_16, or_end=False):
 
 def not_read(content, number, place):
     """The fault of a record at a place, as a link tells it: that its body is none of its type comes before what else is
-    wrong, and has a number by what its type is.
+    wrong, and has a number by what its type is. A COMDAT is of a type that isn't taken, unless its name isn't listed.
     """
+    kind = content[place:place + 1]
+    if kind in OF_COMDATS and number not in AS_LISTED:
+        is_unlisted = kind in OF_COMDATS[:2] and not is_wrong_body(content, place) and not comdats.is_one(content, place)
+        return NotRead(NO_SAYING if is_unlisted else TYPE, place)
     if number not in (*AS_LISTED, TYPE) and (number == BODY or is_wrong_body(content, place)):
         number = BODY if content[place] in parsing.PARSERS else NO_SAYING
     if content[place:place + 1] == bytes([COMDEF]):

@@ -6,7 +6,7 @@ lowering.py, and what a record may not say beside those before it by module.py.
 
 from itertools import repeat
 
-from model import lowering, module, parsing, showing
+from model import comdats, lowering, module, parsing, showing
 from model.faults import Fault
 from model.libraries import whole_frames
 from model.records import LONGEST_BODY, Spelling
@@ -14,7 +14,7 @@ from model.records import LONGEST_BODY, Spelling
 BODY, NO_END, NO_SAYING = 6, 8, 51
 # the types that a link takes beside those that `omf` reads
 MORE_TYPES = (
-    0x82, 0x8B, 0x91, 0x95, 0x99, 0x9D, 0xA1, 0xA3, 0xB0, 0xB5, 0xB7, 0xB8, 0xBC, 0xC6, 0xCA)
+    0x82, 0x8B, 0x91, 0x95, 0x99, 0x9D, 0xA1, 0xA3, 0xB0, 0xB5, 0xB7, 0xB8, 0xBC, 0xC2, 0xC3, 0xC4, 0xC5, 0xC6, 0xCA)
 
 
 def body_fault(kind, place, byte):
@@ -52,26 +52,26 @@ def framed(kind, body):
     return b"".join(Spelling().framed(kind, each) for each in bodies)
 
 
-def front_of(content, keeps_debug, means):
+def front_of(content, keeps_debug, means, fates):
     """The bytes of a module as it is lowered, up to the first record that can't be, and that one's fault or None."""
-    records, found, place = lowering.Lowering(keeps_debug, means), [], 0
+    records, found, place = comdats.ComdatLowering(keeps_debug, means, fates), [], 0
     for frame in whole_frames(content):
         try:
             check_body(frame, place)
-            kind, body = records.lower(frame.kind, frame.body)
+            linked = records.lower_all(frame.kind, frame.body)
         except Fault as fault:
             return b"".join(found), fault
         except lowering.Obstacle as obstacle:
             return b"".join(found), Fault(obstacle.number, place=place)
-        is_same = (kind, body) == (frame.kind, frame.body)
-        found.append(content[place:frame.behind] if is_same else framed(kind, body))
+        is_same = linked == [(frame.kind, frame.body)]
+        found += [content[place:frame.behind]] if is_same else [framed(kind, body) for kind, body in linked]
         place = frame.behind
     return b"".join([*found, content[place:]]), None
 
 
-def taken(content, keeps_debug, means=lowering.itself):
+def taken(content, keeps_debug, means=lowering.itself, fates=()):
     """The bytes of a module as it is lowered, or the fault of its first record that has one, by its place."""
-    linked, later = front_of(content, keeps_debug, means)
+    linked, later = front_of(content, keeps_debug, means, fates)
     try:
         module.read(linked, None)
     except Fault as fault:
@@ -85,12 +85,15 @@ def taken(content, keeps_debug, means=lowering.itself):
     return linked
 
 
-def taken_modules(contents, keeps_debug, means=repeat(lowering.itself)):
-    """The bytes of modules so, or the first fault of the first that has one, with the module's number."""
+def taken_modules(contents, keeps_debug, means=repeat(lowering.itself), fates=repeat(())):
+    """The bytes of modules so, or the first fault of the first that has one, with the module's number.
+
+    Of each it is known what its names mean, and what becomes of its COMDAT records.
+    """
     found = []
-    for owner, (content, own) in enumerate(zip(contents, means)):
+    for owner, (content, *own) in enumerate(zip(contents, means, fates)):
         try:
-            found.append(taken(content, keeps_debug, own))
+            found.append(taken(content, keeps_debug, *own))
         except Fault as fault:
             fault.owner = owner
             raise
