@@ -46,6 +46,8 @@ FIRST_STATE, LENGTH_OF_NAME = 0x243F_6A88_85A3_08D3, 16
 PUBDEF, LPUBDEF = 0x90, 0xB6
 EXTDEF, LEXTDEF = 0x8C, 0xB4
 
+# the type of data of which modules may each have some of one name, and how many of them a module has that shares all
+COMDAT, SHARED, SHARED_BYTES = 0xC2, 40, 16
 # the types of comments and of aliases, and the class of a comment that gives weak externals their defaults
 COMENT, ALIAS, WKEXT = 0x88, 0xC6, 0xA8
 # the type of those that declare communal variables
@@ -245,6 +247,30 @@ def library_of_callers(count):
     for number, module in enumerate(taken):
         members += [unwanted_module(2 * number), unwanted_module(2 * number + 1), module]
     return Inputs([main, library(members)], called.size, called.relocations)
+
+
+def comdat(name_index):
+    """A COMDAT of which any of its name is taken, in the first segment, at a byte."""
+    front = bytes([0, 0x10, 1]) + struct.pack("<HB", 0, 0) + b"\0\1" + index(name_index)
+    return record(COMDAT, front + bytes([0x90]) * SHARED_BYTES)
+
+
+def sharing_module(number):
+    """A module with COMDATs, which has the same as any other such module; the first one starts the program."""
+    shared = [f"shared{number}" for number in range(SHARED)]
+    return (
+        header(f"m{number}")
+        + names("CODE", "CODE", *shared)
+        + segment(4)
+        + data(1, 0, bytes(4))
+        + b"".join(comdat(at + 3) for at in range(SHARED))
+        + (main_end() if number == 0 else end())
+    )
+
+
+def shared_comdats(count):
+    """Modules that all have the same COMDATs."""
+    return Inputs([sharing_module(number) for number in range(count)], 4 * count + SHARED * SHARED_BYTES, 0)
 
 
 def library_of_names(count):
