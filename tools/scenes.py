@@ -7,8 +7,8 @@ import struct
 from dataclasses import dataclass, field
 
 from making import (
-    ALIAS, COMDAT, COMDEF, FIXUPP, GRPDEF, LEDATA, MODEND, PUBDEF, SEGDEF, SHORTEST, THEADR, archive, comment, externals,
-    library, member, module, name, names, placed, publics, record, uses)
+    ALIAS, BAKPAT, COMDAT, COMDEF, FIXUPP, GRPDEF, LEDATA, LNAMES, MODEND, PUBDEF, SEGDEF, SHORTEST, THEADR, archive,
+    comment, externals, library, member, module, name, names, placed, publics, record, uses)
 
 
 @dataclass(frozen=True)
@@ -161,8 +161,8 @@ MISSES_TWO = placed(b"main.c", {145: externals(b"_prinft"), 167: externals(b"str
 STRLEN = library(16, module(b"strlen", publics(b"_strlen")))
 MANY = module(b"main.c", externals(*(b"n%d" % number for number in range(2_000))))
 # records that aren't taken
-WITH_COMDAT = placed(b"print.c", {312: record(COMDAT, b"\0\0\0\0\0\0\1\0")})
-COMDAT_MEMBER = placed(b"printf", {60: publics(b"_printf"), 312: record(COMDAT, b"\0\0\0\0\0\0\1\0")})
+WITH_BACKPATCH = placed(b"print.c", {312: record(BAKPAT, b"\1\1\0\0\1\0")})
+PATCHED_MEMBER = placed(b"printf", {60: publics(b"_printf"), 312: record(BAKPAT, b"\1\1\0\0\1\0")})
 CUT_LIBRARY = library(32_768, PRINTF)[:65_536]
 LONG_SEGDEF = record(THEADR, name(b"main.module")) + record(SEGDEF, b"\x28\1\0\0\0\0\0")
 # a module whose names stand in one twice
@@ -178,6 +178,12 @@ WRONG_SUM = HELLO[:10] + bytes([HELLO[10] ^ 1]) + HELLO[11:]
 WANTS_BUFFER = module(b"main.c", near(b"_buffer", 2), externals(b"_flush"))
 FAR_BUFFER = library(16, module(b"buffer", far(b"_buffer", 2, 1), publics(b"_flush")))
 LONG_TABLE = module(b"main.c", near(b"_table", 65_537))
+# a COMDAT of which all have one size
+TABLE_FRONT = record(LNAMES, name(b"_table")) + record(SEGDEF, b"\x28\0\0\2\1\1")
+HAS_TABLE = module(
+    b"main.c", TABLE_FRONT, record(COMDAT, b"\0\x20\1\0\0\0\0\1\3" + bytes(4)), externals(b"_sum"))
+OTHER_TABLE = library(16, module(
+    b"table", TABLE_FRONT, record(COMDAT, b"\0\x20\1\0\0\0\0\1\3" + bytes(6)), publics(b"_sum")))
 FAR_X = module(b"main.c", far(b"x", 1, 2), uses(1))
 # an alias that stands for itself
 WANTS_READ = module(b"main.c", externals(b"read"))
@@ -210,7 +216,7 @@ SHOWN = {
         'make LINK="doslink --as link" TLINK="doslink --as tlink"': Run(OLD_MAKEFILE, ("make",)),
         'doslink: MAIN.OBJ: "_prinft" is missing: record 145 (00000091), wanted by "main.c"': Lines((
             Said("doslink MAIN.OBJ", 1, {"MAIN.OBJ": MISSES}),
-            Said("doslink PRINT.OBJ", 1, {"PRINT.OBJ": WITH_COMDAT}))),
+            Said("doslink PRINT.OBJ", 1, {"PRINT.OBJ": WITH_BACKPATCH}))),
         "rt ci": Untried("it is the gate, which runs this"),
     },
     "docs/COMMANDS.md": {
@@ -276,8 +282,8 @@ SHOWN = {
         "option quiet": Written("HELLO.LNK", "wlink @HELLO.LNK", {
             "rtl/large/prt0l.o": START_UP, "hello.a": archive(member(b"hello.o/", HELLO)),
             "rtl/large/system.a": archive(member(b"printf.o/", PRINTF))}),
-        "doslink: CLIB.LIB(printf): 5 Type at record 312 (C2 COMDAT)": Lines((
-            Said("doslink HELLO.OBJ CLIB.LIB", 1, {"HELLO.OBJ": HELLO, "CLIB.LIB": library(16, COMDAT_MEMBER)}),
+        "doslink: CLIB.LIB(printf): 5 Type at record 312 (B2 BAKPAT)": Lines((
+            Said("doslink HELLO.OBJ CLIB.LIB", 1, {"HELLO.OBJ": HELLO, "CLIB.LIB": library(16, PATCHED_MEMBER)}),
             Said("doslink HELLO.OBJ CLIB.LIB", 1, {"HELLO.OBJ": HELLO, "CLIB.LIB": CUT_LIBRARY}),
             Said("doslink A.OBJ B.OBJ", 1, {"A.OBJ": HALF_OF_TEXT, "B.OBJ": HALF_OF_TEXT}),
             Said("doslink HELLO.OBJ CLIB.LIB", 1, {"HELLO.OBJ": HELLO, "CLIB.LIB": MAIN_TWICE}))),
@@ -288,7 +294,8 @@ SHOWN = {
             Said("doslink MAIN.OBJ", 1, {"MAIN.OBJ": CLEARED}),
             Said("doslink --stack 4096 MAIN.OBJ", 1, {"MAIN.OBJ": stack_of(8192)}),
             Said("doslink CLIB.LIB", 1, {"CLIB.LIB": CLIB}),
-            Said("doslink --form com HELLO.OBJ", 1, {"HELLO.OBJ": "examples/hello/HELLO.OBJ"}))),
+            Said("doslink --form com HELLO.OBJ", 1, {"HELLO.OBJ": "examples/hello/HELLO.OBJ"}),
+            Said("doslink MAIN.OBJ CLIB.LIB", 1, {"MAIN.OBJ": HAS_TABLE, "CLIB.LIB": OTHER_TABLE}))),
         'doslink: MAIN.OBJ: "_prinft" is missing: record 145 (00000091), wanted by "main.c"': Lines((
             Said("doslink MAIN.OBJ CLIB.LIB", 1, {"MAIN.OBJ": MISSES_TWO, "CLIB.LIB": STRLEN}),)),
         "doslink: and 1,980 more": Lines((Said("doslink MAIN.OBJ", 1, {"MAIN.OBJ": MANY}),)),

@@ -14,7 +14,7 @@ CLAUSES = "Its clauses:"
 CITED = "They cite "
 WHOLE = "Definition by definition: "
 SEVERAL = "## Names of more than one thing"
-COUNTS = r"\d+ definitions\sof [\d,]+\slines\sand\s\d+\stypes\sof [\d,]+\slines"
+COUNTS = r"[\d,]+ definitions\sof [\d,]+\slines\sand\s\d+\stypes\sof [\d,]+\slines"
 WIDTH = 100
 
 
