@@ -29,6 +29,12 @@ two_there true true e = (refl, refl)
 two_there true false e = absurd (true≢false (sym e))
 two_there false b e = absurd (true≢false (sym e))
 
+three_there : (a b c : Bool) → ((a && (b && (c && true))) || false) ≡ true → (a ≡ true) × (b ≡ true) × (c ≡ true)
+three_there true true true e = (refl, refl, refl)
+three_there true true false e = absurd (true≢false (sym e))
+three_there true false c e = absurd (true≢false (sym e))
+three_there false b c e = absurd (true≢false (sym e))
+
 pub list_values : (name : Text) (rows : List Row) → IsEntered name rows → name ≡ codes "list"
     → IsSome (first_of (codes "FILES") rows)
 unfolding IsEntered clap_on_literals
@@ -53,6 +59,14 @@ unfolding IsEntered clap_on_literals
 match_values name rows entered is =
     two_there (is_some (first_of (codes "PROGRAM") rows)) (is_some (first_of (codes "FILES") rows))
     (subst (λ n. IsEntered n rows) is entered)
+
+pub compare_values : (name : Text) (rows : List Row) → IsEntered name rows → name ≡ codes "compare"
+    → IsSome (first_of (codes "PROGRAM") rows) × IsSome (first_of (codes "OTHER") rows)
+    × IsSome (first_of (codes "FILES") rows)
+unfolding IsEntered clap_on_literals
+compare_values name rows entered is =
+    three_there (is_some (first_of (codes "PROGRAM") rows)) (is_some (first_of (codes "OTHER") rows))
+    (is_some (first_of (codes "FILES") rows)) (subst (λ n. IsEntered n rows) is entered)
 
 pub names_values : (name : Text) (rows : List Row) → IsEntered name rows → name ≡ codes "names"
     → IsSome (first_of (codes "FILES") rows)
@@ -100,16 +114,18 @@ differs x name other = false_from_ne_true _ (λ e. other (sym ((bytes_eq-Decides
 
 pub one_of_all : (name : Text) (rows : List Row) → IsEntered name rows → (name ≡ codes "list" → ⊥)
     → (name ≡ codes "show" → ⊥) → (name ≡ codes "program" → ⊥) → (name ≡ codes "match" → ⊥)
-    → (name ≡ codes "names" → ⊥) → (name ≡ codes "make" → ⊥) → (name ≡ codes "add" → ⊥)
-    → (name ≡ codes "delete" → ⊥) → (name ≡ codes "replace" → ⊥) → (name ≡ codes "extract" → ⊥) → ⊥
+    → (name ≡ codes "compare" → ⊥) → (name ≡ codes "names" → ⊥) → (name ≡ codes "make" → ⊥)
+    → (name ≡ codes "add" → ⊥) → (name ≡ codes "delete" → ⊥) → (name ≡ codes "replace" → ⊥)
+    → (name ≡ codes "extract" → ⊥) → ⊥
 unfolding IsEntered
-one_of_all name rows entered list show program matching names make add delete replace extract =
+one_of_all name rows entered list show program matching comparing names make add delete replace extract =
     let none : false ≡ true =
     rw (
       differs (codes "list") name list,
       differs (codes "show") name show,
       differs (codes "program") name program,
       differs (codes "match") name matching,
+      differs (codes "compare") name comparing,
       differs (codes "names") name names,
       differs (codes "make") name make,
       differs (codes "add") name add,

@@ -1,5 +1,6 @@
 pub mod Libraries
 pub mod Matching
+pub mod Comparing
 pub mod Program
 pub mod Words
 pub mod inside

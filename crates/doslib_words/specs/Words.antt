@@ -8,8 +8,9 @@ use Rattle.command_line.specs.declared.words_fault.WordsFault.{WordsFault}
 use Rattle.command_line.specs.declared.words_fault.WordsFault.TheVariants.{Help, Wrong, Memory}
 use Rattle.doslib_words.specs.declared.words.Job.{Job}
 use Rattle.doslib_words.specs.declared.words.Job.TheVariants.{List as ListJob, Show as ShowJob, Program as ProgramJob}
-use Rattle.doslib_words.specs.declared.words.Job.TheVariants.{Match as MatchJob, Names, Make, Add, Delete, Replace}
-use Rattle.doslib_words.specs.declared.words.Job.TheVariants.{Extract}
+use Rattle.doslib_words.specs.declared.words.Job.TheVariants.{Match as MatchJob, Compare, Names, Make, Add}
+use Rattle.doslib_words.specs.declared.words.Job.TheVariants.{Delete, Replace, Extract}
+use Rattle.doslib_words.specs.Comparing.{compare_command}
 use Rattle.doslib_words.specs.Libraries.{AreValues, names_command, with_changes}
 use Rattle.doslib_words.specs.Matching.{match_command}
 use Rattle.doslib_words.specs.Program.{HasWrongPlace, IsImageOf, program_command}
@@ -38,7 +39,8 @@ doslib_command =
     let showing = with_subcommand listing (files_command (codes "show")).top in
     let programs = with_subcommand showing program_command.top in
     let matching = with_subcommand programs match_command.top in
-    with_changes (with_subcommand matching names_command.top)
+    let comparing = with_subcommand matching compare_command.top in
+    with_changes (with_subcommand comparing names_command.top)
 
 -- these are the files of a subcommand with these values, one at least
 abbrev pub AreFiles : List Row → List (Bor Text) → Type 0
@@ -57,6 +59,9 @@ IsJobOf name rows (ProgramJob file image) =
     (name ≡ codes "program") × (first_of (codes "FILE") rows ≡ Some file.now) × IsImageOf rows image
 IsJobOf name rows (MatchJob program files) =
     (name ≡ codes "match") × (first_of (codes "PROGRAM") rows ≡ Some program.now) × AreFiles rows files.items
+IsJobOf name rows (Compare program other files) =
+    (name ≡ codes "compare") × (first_of (codes "PROGRAM") rows ≡ Some program.now)
+    × (first_of (codes "OTHER") rows ≡ Some other.now) × AreFiles rows files.items
 IsJobOf name rows (Names ignore_case files) =
     (name ≡ codes "names") × IsFlag (codes "ignore-case") rows ignore_case × AreFiles rows files.items
 IsJobOf name rows (Make library files) = (name ≡ codes "make") × AreForLibrary rows library (codes "FILES") files.items

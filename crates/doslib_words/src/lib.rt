@@ -1,6 +1,7 @@
 //! The words of the command line of `doslib`, and the jobs that they ask for.
 #![tactic(auto)]
 
+mod comparing;
 mod libraries;
 mod matching;
 mod names;

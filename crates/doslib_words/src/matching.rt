@@ -12,7 +12,7 @@ use command_line::{WordsFault, with_arg};
 use std::alloc::{AllocError, Global};
 
 /// The program's file.
-fn program_arg<'a>(alloc: Global) -> Arg<'a>
+pub(crate) fn program_arg<'a>(alloc: Global) -> Arg<'a>
     ensures rule { rule_of result ≡ spec.program_rule }
     ensures local { result.global ≡ false }
 {

@@ -9,6 +9,7 @@ ghost use Rattle.doslib_words.specs.Words as spec;
 ghost use Rattle.doslib_words.specs.Words.{IsJobFor, IsJobOf, IsRefusalFor, texts};
 ghost use Rattle.doslib_words.specs.inside.Words.{IsEntered, IsRefusalOf};
 
+use crate::comparing::{compare_command, compare_job};
 use crate::libraries::{library_command, members_arg};
 use crate::matching::{match_command, match_job};
 use crate::names::{names_command, names_job};
@@ -48,6 +49,15 @@ pub enum Job<'a> {
     Match {
         /// The path of the program.
         program: &'a str,
+        /// The paths of the files, in their order.
+        files: Vec<&'a str>,
+    },
+    /// Tell the first byte at which two programs differ, and which modules of files have it in the first of them.
+    Compare {
+        /// The path of the program in which modules are looked for.
+        program: &'a str,
+        /// The path of the program that it is held against.
+        other: &'a str,
         /// The paths of the files, in their order.
         files: Vec<&'a str>,
     },
@@ -168,6 +178,7 @@ fn doslib_command<'a>(alloc: Global) -> Result<Command<'a>, AllocError>
     let command = with_command(command, show);
     let command = with_command(command, program_command(alloc));
     let command = with_command(command, match_command(alloc));
+    let command = with_command(command, compare_command(alloc));
     let command = with_command(command, names_command(alloc, files(alloc)));
     with_changes(alloc, command)
 }
@@ -234,6 +245,7 @@ fn job_of<'a>(alloc: Global, name: &str, values: &ArgMatches<'a>) -> Result<Job<
         }),
         "program" => program_job(alloc, values),
         "match" => match_job(alloc, values),
+        "compare" => compare_job(alloc, values),
         "names" => names_job(alloc, values),
         "make" => Ok(Job::Make {
             library: needed(values, "LIB"),

@@ -6,6 +6,7 @@ use Rattle.clap.specs.Words.{Row, Text, first_of}
 use Rattle.command_line.specs.Rules.{files_rule}
 use Rattle.command_line.specs.declared.words_fault.WordsFault.{WordsFault}
 use Rattle.command_line.specs.declared.words_fault.WordsFault.TheVariants.{Help, Wrong, Memory}
+use Rattle.doslib_words.specs.Comparing.{compare_command}
 use Rattle.doslib_words.specs.Libraries.{library_command, members_rule, names_command}
 use Rattle.doslib_words.specs.Matching.{match_command}
 use Rattle.doslib_words.specs.Program.{HasWrongPlace, program_command}
@@ -16,7 +17,7 @@ unfoldable pub IsEntered : Text → List Row → Type 0
 IsEntered name rows =
     list_any (λ s. bytes_eq s.name name && list_all (λ a. not a.required || is_some (first_of a.id rows)) s.rules)
     ((files_command (codes "list")).top ∷ (files_command (codes "show")).top ∷ program_command.top ∷ match_command.top
-    ∷ names_command.top ∷ (library_command (codes "make") files_rule).top
+    ∷ compare_command.top ∷ names_command.top ∷ (library_command (codes "make") files_rule).top
     ∷ (library_command (codes "add") files_rule).top ∷ (library_command (codes "delete") members_rule).top
     ∷ (library_command (codes "replace") files_rule).top ∷ (library_command (codes "extract") members_rule).top ∷ [])
     ≡ true

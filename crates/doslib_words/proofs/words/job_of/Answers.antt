@@ -1,7 +1,7 @@
 use Rattle.clap.specs.Words.{found_of, rows_of}
-use Rattle.doslib_words.proofs.WordsValues.{add_values, delete_values, extract_values, list_values, make_values}
-use Rattle.doslib_words.proofs.WordsValues.{match_values, names_values, one_of_all, program_values, replace_values}
-use Rattle.doslib_words.proofs.WordsValues.{show_values}
+use Rattle.doslib_words.proofs.WordsValues.{add_values, compare_values, delete_values, extract_values, list_values}
+use Rattle.doslib_words.proofs.WordsValues.{make_values, match_values, names_values, one_of_all, program_values}
+use Rattle.doslib_words.proofs.WordsValues.{replace_values, show_values}
 use Rattle.doslib_words.proofs.words.job_of.Goals as goal
 
 pub values_of-requires : goal.values_of-requires
@@ -22,6 +22,18 @@ match_job-requires-clause-program c =
 pub match_job-requires-clause-files : goal.match_job-requires-clause-files
 match_job-requires-clause-files c =
     (match_values c.args.name.now (rows_of (found_of c.args.values.now)) c.requires c.in-match.is).1
+
+pub compare_job-requires-clause-program : goal.compare_job-requires-clause-program
+compare_job-requires-clause-program c =
+    (compare_values c.args.name.now (rows_of (found_of c.args.values.now)) c.requires c.in-compare.is).0
+
+pub compare_job-requires-clause-other : goal.compare_job-requires-clause-other
+compare_job-requires-clause-other c =
+    (compare_values c.args.name.now (rows_of (found_of c.args.values.now)) c.requires c.in-compare.is).1
+
+pub compare_job-requires-clause-files : goal.compare_job-requires-clause-files
+compare_job-requires-clause-files c =
+    (compare_values c.args.name.now (rows_of (found_of c.args.values.now)) c.requires c.in-compare.is).2
 
 pub names_job-requires : goal.names_job-requires
 names_job-requires c = names_values c.args.name.now (rows_of (found_of c.args.values.now)) c.requires c.in-names.is
@@ -69,6 +81,6 @@ values_of-requires-in-extract c =
 pub unreachable-requires : goal.unreachable-requires
 unreachable-requires c =
     one_of_all c.args.name.now (rows_of (found_of c.args.values.now)) c.requires c.in_default.not-list
-    c.in_default.not-show c.in_default.not-program c.in_default.not-match c.in_default.not-names
-    c.in_default.not-make c.in_default.not-add c.in_default.not-delete c.in_default.not-replace
-    c.in_default.not-extract
+    c.in_default.not-show c.in_default.not-program c.in_default.not-match c.in_default.not-compare
+    c.in_default.not-names c.in_default.not-make c.in_default.not-add c.in_default.not-delete
+    c.in_default.not-replace c.in_default.not-extract
