@@ -28,7 +28,8 @@ use Rattle.doslib_jobs.specs.declared.fault.Stopped.TheVariants as stopped
 use Rattle.doslib_words.specs.declared.words.Job.{Job}
 use Rattle.doslib_words.specs.declared.words.Job.TheVariants.{List as ListJob, Show as ShowJob, Program as ProgramJob}
 use Rattle.doslib_words.specs.declared.words.Job.TheVariants.{Match as MatchJob, Names as NamesJob, Make, Add, Delete}
-use Rattle.doslib_words.specs.declared.words.Job.TheVariants.{Replace, Extract}
+use Rattle.doslib_words.specs.declared.words.Job.TheVariants.{Replace, Extract, Compare}
+use Rattle.doslib_jobs.specs.Comparing.{Compares}
 use Rattle.doslib_jobs.specs.Libraries.{NotLibrary, Refusal, Source, added, all_deleted, all_extracted, all_held}
 use Rattle.doslib_jobs.specs.Libraries.{all_modules, all_replaced, in_library, is_library, made, source_of}
 use Rattle.doslib_jobs.specs.LibraryLines.{doubled_lines, librarian_line, refusal_line}
@@ -197,6 +198,8 @@ Answers told looks Stands (ProgramJob file image) old new answer =
     IfOk answer (TellsProgram told looks Stands file.now image old new)
 Answers told looks Stands (MatchJob program files) old new answer =
     IfOk answer (Matches told program.now (texts files.items) old new)
+Answers told looks Stands (Compare program other files) old new answer =
+    IfOk answer (Compares told program.now other.now (texts files.items) old new)
 Answers told looks Stands (NamesJob ignore_case files) old new answer =
     IfOk answer (λ o. TellsNames told (choice_of ignore_case) (texts files.items) old new o.0 o.1)
 Answers told looks Stands (Make library files) old new answer =

@@ -30,6 +30,17 @@ fault_line path fault =
 abbrev pub IsAtFault : (path : List ℕ) → FileFault → List ℕ × ℕ → Type 0
 IsAtFault path fault answer = (answer.0 ≡ fault_line path fault) × (answer.1 ≡ 1)
 
+-- the file at a path holds this program: it has these bytes, where those of files by their paths are told
+abbrev pub HasProgram : (told : List ℕ → Option (List ℕ)) → (path : List ℕ) → MzFile → Type 0
+HasProgram told path program = (bytes : List ℕ) × IsTold (told path) bytes × (reading bytes ≡ Ok program)
+
+-- it holds none, or isn't read, and that is the answer
+abbrev pub HasNoProgram : (told : List ℕ → Option (List ℕ)) → (path : List ℕ) → (answer : List ℕ × ℕ) → Type 0
+HasNoProgram told path answer =
+    ((bytes : List ℕ) × (fault : FileFault) × IsTold (told path) bytes × (reading bytes ≡ Err fault)
+    × IsAtFault path fault answer)
+    ⊎ ((fault : ReadFault) × (answer.0 ≡ unread_line path fault) × (answer.1 ≡ 3))
+
 -- A file of these bytes stands at a path; or it can't be written, which a line tells. `Stands` is what the world
 -- promises of a file that was put at a path.
 abbrev pub IsWritten : (Stands : (path bytes : List ℕ) → Type 0) → (out bytes : List ℕ) → List ℕ × ℕ → Type 0

@@ -3,3 +3,4 @@ pub mod Matching
 pub mod Program
 pub mod Running
 pub mod Libraries
+pub mod Comparing

@@ -9,6 +9,7 @@ ghost use Rattle.doslib_jobs.specs.inside.Running.{outcome_said};
 ghost use Rattle.doslib_words.specs.Words.{texts};
 
 use crate::changing::Change;
+use crate::comparing::{Pair, tell_compared};
 use crate::extracting::extract;
 use crate::fault::Stopped;
 use crate::making::{change_library, make_library};
@@ -108,6 +109,18 @@ fn answer_job<W: World + Copy, O: Write + Drop, A: Allocator + Copy>(
         Job::Match { program, files } => {
             let search = Search { program, files };
             tell_matches(alloc, world, search, output)
+        }
+        Job::Compare {
+            program,
+            other,
+            files,
+        } => {
+            let pair = Pair {
+                program,
+                other,
+                files,
+            };
+            tell_compared(alloc, world, pair, output)
         }
         Job::Names { ignore_case, files } => {
             tell_names(alloc, world, *ignore_case, files, output)

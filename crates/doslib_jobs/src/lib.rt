@@ -4,6 +4,7 @@
 
 mod bytes;
 mod changing;
+mod comparing;
 mod extracting;
 mod fault;
 mod jobs;

@@ -7,7 +7,7 @@ ghost use Rattle.mz.specs.Reading.{reading};
 ghost use Rattle.doslink_files.specs.Written.{StandsAt};
 ghost use Rattle.doslib_jobs.specs.Program as spec;
 ghost use Rattle.doslib_jobs.specs.Reading.{unread_line, unwritten_line};
-ghost use Rattle.doslib_jobs.specs.inside.Program.{Finds};
+ghost use Rattle.doslib_jobs.specs.inside.Program.{Finds, Holds, HoldsIn};
 ghost use Rattle.doslib_jobs.specs.inside.Running.{outcome_said, said};
 
 use crate::bytes::Bytes;
@@ -35,13 +35,13 @@ pub(crate) struct Asked<'a> {
 
 /// A program that was found in a file, and how many bytes stand behind it there.
 #[derive(Drop)]
-pub(crate) struct Found<A: Allocator + Copy> {
-    pub program: MzFile<A>,
-    pub behind: usize,
+struct Found<A: Allocator + Copy> {
+    program: MzFile<A>,
+    behind: usize,
 }
 
 /// The program in a file with these bytes.
-pub(crate) fn find_program<A: Allocator + Copy>(alloc: A, bytes: &[u8]) -> Result<Found<A>, MzFault>
+fn find_program<A: Allocator + Copy>(alloc: A, bytes: &[u8]) -> Result<Found<A>, MzFault>
     ensures { Finds bytes.now result (reading bytes.now) }
 {
     let mut source = Bytes { rest: bytes };
@@ -72,7 +72,7 @@ fn push_fault<A: Allocator + Copy>(
 }
 
 /// What a job comes to of a program's file at a path that is at fault.
-pub(crate) fn at_fault<A: Allocator + Copy>(
+fn at_fault<A: Allocator + Copy>(
     alloc: A,
     path: &str,
     fault: FileFault,
@@ -97,7 +97,7 @@ fn unwritten<A: Allocator + Copy>(alloc: A, path: &str) -> Result<Outcome<A>, Al
 }
 
 /// What it comes to where a file can't be read at a path.
-pub(crate) fn unread<A: Allocator + Copy>(
+fn unread<A: Allocator + Copy>(
     alloc: A,
     path: &str,
     fault: ReadFault,
@@ -108,6 +108,39 @@ pub(crate) fn unread<A: Allocator + Copy>(
     let mut outcome = Outcome::new(alloc);
     outcome.add_unread(path, fault)?;
     Ok(outcome)
+}
+
+/// The program in a file, or what a job comes to that has none there.
+#[derive(Drop)]
+pub(crate) enum Held<A: Allocator + Copy> {
+    Program(MzFile<A>),
+    Ends(Outcome<A>),
+}
+
+/// The program in a file at a path with these bytes.
+fn held_in<A: Allocator + Copy>(alloc: A, path: &str, bytes: &[u8]) -> Result<Held<A>, AllocError>
+    ensures { IfOk result (HoldsIn path.now (reading bytes.now)) }
+{
+    match find_program(alloc, bytes) {
+        Ok(found) => Ok(Held::Program(found.program)),
+        Err(MzFault::File(fault)) => Ok(Held::Ends(at_fault(alloc, path, fault)?)),
+        Err(MzFault::Memory) => Err(AllocError),
+    }
+}
+
+/// The program in the file at a path.
+pub(crate) fn program_at<W: World, A: Allocator + Copy>(
+    alloc: A,
+    world: &W,
+    path: &str,
+) -> Result<Held<A>, Stopped>
+    ensures { IfOk result (Holds (W.bytes world.now) path.now) }
+{
+    match read_file(alloc, world, path) {
+        Ok(file) => Ok(held_in(alloc, path, &file.bytes)?),
+        Err(ReadFault::Memory) => Err(Stopped::Memory),
+        Err(fault) => Ok(Held::Ends(unread(alloc, path, fault)?)),
+    }
 }
 
 /// Writes these bytes of an image to a file.

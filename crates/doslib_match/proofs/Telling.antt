@@ -14,8 +14,9 @@ use Rattle.doslib_text.specs.Faults.{faults_text, file_fault}
 use Rattle.doslib_text.specs.Listing.{shown_name}
 use Rattle.doslib_text.specs.Parts.{fault_in, members_in, whole_members}
 use Rattle.doslib_match.specs.declared.matching.Told.{Told}
-use Rattle.doslib_match.specs.Matching.{IsMatch, Tried, fault_line, module_spans, module_text, tried_fault, tried_spans}
-use Rattle.doslib_match.specs.Matching.{tried_text}
+use Rattle.doslib_match.specs.declared.matching.Wanted.{Wanted}
+use Rattle.doslib_match.specs.Matching.{IsMatch, Tried, fault_line, module_text, tried_fault, tried_spans}
+use Rattle.doslib_match.specs.Matching.{tried_text, wanted_spans}
 use Rattle.doslib_match.specs.Reading.{IsReadAs}
 use Rattle.doslib_match.specs.inside.Telling.{AddsMember, AddsMembers}
 
@@ -28,8 +29,8 @@ pushed f xs x old mid new before added =
     ∙ ap (λ l. old ++ l) (sym (flat_map-append f xs (x ∷ [])))
 
 -- nothing was added
-pub adds-none : {A : Type 0} (image path : List ℕ) (told : Told A) → AddsMembers image path [] told told
-adds-none image path told = record {
+pub adds-none : {A : Type 0} (wanted : Wanted) (image path : List ℕ) (told : Told A) → AddsMembers wanted image path [] told told
+adds-none wanted image path told = record {
   tried = [];
   are = (refl, search rules);
   text = sym (append-nil _);
@@ -38,11 +39,11 @@ adds-none image path told = record {
 }
 
 -- one more was
-pub adds-more : {A X : Type 0} (image path : List ℕ) (says : X → PlainMember) (members : List X) (i : ℕ) (d : X)
-    (old mid new : Told A) → i < length members → AddsMembers image path (map says (take i members)) old mid
-    → AddsMember image path (says (get_or members i d)) mid new
-    → AddsMembers image path (map says (take (i + 1) members)) old new
-adds-more image path says members i d old mid new h before (one, is, read, text, spans, faults) = record {
+pub adds-more : {A X : Type 0} (wanted : Wanted) (image path : List ℕ) (says : X → PlainMember) (members : List X) (i : ℕ) (d : X)
+    (old mid new : Told A) → i < length members → AddsMembers wanted image path (map says (take i members)) old mid
+    → AddsMember wanted image path (says (get_or members i d)) mid new
+    → AddsMembers wanted image path (map says (take (i + 1) members)) old new
+adds-more wanted image path says members i d old mid new h before (one, is, read, text, spans, faults) = record {
   tried = before.tried ++ one ∷ [];
   are = (
     map-append (λ (t : Tried). t.member) before.tried (one ∷ []) ∙ ap₂ (λ l m. l ++ m ∷ []) before.are.0 is
@@ -50,16 +51,16 @@ adds-more image path says members i d old mid new h before (one, is, read, text,
         ∙ ap (map says) (sym (take_more members i d h)),
     All-push (λ (t : Tried). IsReadAs t.member.bytes t.read) before.tried one before.are.1 read,
   );
-  text = pushed (tried_text image path) before.tried one _ _ _ before.text text;
-  spans = pushed (tried_spans image) before.tried one _ _ _ before.spans spans;
+  text = pushed (tried_text wanted image path) before.tried one _ _ _ before.text text;
+  spans = pushed (tried_spans wanted image) before.tried one _ _ _ before.spans spans;
   faults = pushed (tried_fault path) before.tried one _ _ _ before.faults faults;
 }
 
 -- all of them were
-pub adds-all : {A X : Type 0} (image path : List ℕ) (says : X → PlainMember) (members : List X) (i : ℕ)
-    (old new : Told A) → length members ≤ i → AddsMembers image path (map says (take i members)) old new
-    → AddsMembers image path (map says members) old new
-adds-all image path says members i old new h adds = record {
+pub adds-all : {A X : Type 0} (wanted : Wanted) (image path : List ℕ) (says : X → PlainMember) (members : List X) (i : ℕ)
+    (old new : Told A) → length members ≤ i → AddsMembers wanted image path (map says (take i members)) old new
+    → AddsMembers wanted image path (map says members) old new
+adds-all wanted image path says members i old new h adds = record {
   tried = adds.tried;
   are = (adds.are.0 ∙ ap (map says) (take_all i members h), adds.are.1);
   text = adds.text;
@@ -70,12 +71,12 @@ adds-all image path says members i old new h adds = record {
 -- ---- a member
 
 -- one that is read as a module
-pub adds-module : {A X E : Type 0} (r : Result X E) (image path : List ℕ) (m : PlainMember) (one : Module)
+pub adds-module : {A X E : Type 0} (r : Result X E) (wanted : Wanted) (image path : List ℕ) (m : PlainMember) (one : Module)
     (before after : Told A) → IsReadAs m.bytes (Ok one)
-    → OnOk r (after.text.items ≡ before.text.items ++ module_text image path (shown_name m) one)
-    → OnOk r (after.spans.items ≡ before.spans.items ++ module_spans image one)
-    → OnOk r (after.faults ≡ before.faults) → OnOk r (AddsMember image path m before after)
-adds-module (Ok x) image path m one before after reads text spans faults = (
+    → OnOk r (after.text.items ≡ before.text.items ++ module_text wanted image path (shown_name m) one)
+    → OnOk r (after.spans.items ≡ before.spans.items ++ wanted_spans wanted image one)
+    → OnOk r (after.faults ≡ before.faults) → OnOk r (AddsMember wanted image path m before after)
+adds-module (Ok x) wanted image path m one before after reads text spans faults = (
   record { member = m; read = Ok one },
   refl,
   reads,
@@ -83,15 +84,15 @@ adds-module (Ok x) image path m one before after reads text spans faults = (
   spans,
   ap (λ v. v.items) faults ∙ sym (append-nil _),
 )
-adds-module (Err e) image path m one before after reads text spans faults = tt
+adds-module (Err e) wanted image path m one before after reads text spans faults = tt
 
 -- one that isn't
-pub adds-fault : {A X E : Type 0} (r : Result X E) (image path : List ℕ) (m : PlainMember) (place : ℕ)
+pub adds-fault : {A X E : Type 0} (r : Result X E) (wanted : Wanted) (image path : List ℕ) (m : PlainMember) (place : ℕ)
     (why : RecordObstacle) (before after : Told A) → IsReadAs m.bytes (Err (place, why))
     → OnOk r (after.text ≡ before.text) → OnOk r (after.spans ≡ before.spans)
     → OnOk r (after.faults.items ≡ before.faults.items ++ fault_line path m place why)
-    → OnOk r (AddsMember image path m before after)
-adds-fault (Ok x) image path m place why before after reads text spans faults = (
+    → OnOk r (AddsMember wanted image path m before after)
+adds-fault (Ok x) wanted image path m place why before after reads text spans faults = (
   record { member = m; read = Err (place, why) },
   refl,
   reads,
@@ -99,21 +100,21 @@ adds-fault (Ok x) image path m place why before after reads text spans faults = 
   ap (λ v. v.items) spans ∙ sym (append-nil _),
   faults,
 )
-adds-fault (Err e) image path m place why before after reads text spans faults = tt
+adds-fault (Err e) wanted image path m place why before after reads text spans faults = tt
 
 -- ---- a file
 
 -- what is told of its members behind nothing, and then of itself
-pub matched : {A : Type 0} (image path file : List ℕ) (members : List PlainMember) (fault : Option (ℕ × FormatFault))
+pub matched : {A : Type 0} (wanted : Wanted) (image path file : List ℕ) (members : List PlainMember) (fault : Option (ℕ × FormatFault))
     (none told : Told A) (faults : List ℕ) → members ≡ whole_members file → fault ≡ fault_in (members_in file)
     → none.text.items ≡ [] → none.spans.items ≡ [] → none.faults.items ≡ []
-    → AddsMembers image path members none told → faults ≡ told.faults.items ++ faults_text path [] fault
-    → IsMatch image path file told.text.items told.spans.items faults
-matched image path file members fault none told faults whole own text spans lines adds all = (
+    → AddsMembers wanted image path members none told → faults ≡ told.faults.items ++ faults_text path [] fault
+    → IsMatch wanted image path file told.text.items told.spans.items faults
+matched wanted image path file members fault none told faults whole own text spans lines adds all = (
   adds.tried,
   (adds.are.0 ∙ whole, adds.are.1),
-  adds.text ∙ ap (λ l. l ++ flat_map (tried_text image path) adds.tried) text,
-  adds.spans ∙ ap (λ l. l ++ flat_map (tried_spans image) adds.tried) spans,
+  adds.text ∙ ap (λ l. l ++ flat_map (tried_text wanted image path) adds.tried) text,
+  adds.spans ∙ ap (λ l. l ++ flat_map (tried_spans wanted image) adds.tried) spans,
   all
       ∙ ap₂ (λ l f. l ++ file_fault path f) (adds.faults ∙ ap (λ l. l ++ flat_map (tried_fault path) adds.tried) lines)
       own,

@@ -4,4 +4,4 @@
 mod label;
 mod matching;
 
-pub use matching::{Told, match_file};
+pub use matching::{Sought, Told, Wanted, match_file};

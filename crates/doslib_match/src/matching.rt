@@ -10,11 +10,27 @@ use byte_places::{Index, Span};
 use doslib_text::{Whole, push_faults, push_located, shown_name};
 use omf_alias::Renaming;
 use omf_library::Member;
-use omf_match::{push_module, push_titled};
+use omf_match::{push_byte, push_module, push_titled};
 use omf_module::Module;
 use omf_place::Names;
 use omf_plain::{PlainModuleFault, RecordObstacle, read_plain};
 use std::alloc::{AllocError, Allocator};
+
+/// Which segments of modules are told of, of those that stand in a program.
+#[derive(Clone, Copy, Debug, PartialEq, Eq)]
+pub enum Wanted {
+    /// All, with their fix-ups.
+    All,
+    /// Those that have the byte at this address of the image, with its offset in them.
+    Byte(usize),
+}
+
+/// A program's image, and which of the segments that stand in it are told of.
+#[derive(Drop)]
+pub struct Sought<'i, 'b, A: Allocator + Copy> {
+    pub image: &'i Index<'b, A>,
+    pub wanted: Wanted,
+}
 
 /// What is told of files.
 #[derive(Drop)]
@@ -50,23 +66,43 @@ impl<A: Allocator + Copy> Told<A> {
         }
     }
 
+    /// Appends where the segments of a module stand, as is wanted, and adds their bytes.
+    fn push_wanted<B: Allocator + Copy>(
+        &mut self,
+        lines: &mut Vec<u8, A>,
+        from: &Module<A>,
+        sought: &Sought<'_, '_, B>,
+    ) -> Result<(), AllocError>
+        ensures lines { OnOk result (lines.new.items
+            ≡ lines.old.items ++ spec.wanted_lines sought.now.wanted sought.now.image.now from.now) }
+        ensures spans { OnOk result (self.new.spans.items
+            ≡ self.old.spans.items ++ spec.wanted_spans sought.now.wanted sought.now.image.now from.now) }
+        ensures text { OnOk result (self.new.text ≡ self.old.text) }
+        ensures faults { OnOk result (self.new.faults ≡ self.old.faults) }
+    {
+        let alloc = *self.text.allocator();
+        match sought.wanted {
+            Wanted::All => push_module(alloc, lines, &mut self.spans, sought.image, from),
+            Wanted::Byte(address) => push_byte(alloc, lines, sought.image, from, address),
+        }
+    }
+
     /// Adds where the segments of a member of a file at a path stand, read as this module.
     fn add_module<B: Allocator + Copy>(
         &mut self,
         path: &str,
         name: &[u8],
         from: &Module<A>,
-        image: &Index<'_, B>,
+        sought: &Sought<'_, '_, B>,
     ) -> Result<(), AllocError>
-        ensures text { OnOk result (self.new.text.items
-            ≡ self.old.text.items ++ spec.module_text image.now path.now name.now from.now) }
+        ensures text { OnOk result (self.new.text.items ≡ self.old.text.items
+            ++ spec.module_text sought.now.wanted sought.now.image.now path.now name.now from.now) }
         ensures spans { OnOk result (self.new.spans.items
-            ≡ self.old.spans.items ++ spec.module_spans image.now from.now) }
+            ≡ self.old.spans.items ++ spec.wanted_spans sought.now.wanted sought.now.image.now from.now) }
         ensures faults { OnOk result (self.new.faults ≡ self.old.faults) }
     {
-        let alloc = *self.text.allocator();
-        let mut lines = Vec::new(alloc);
-        push_module(alloc, &mut lines, &mut self.spans, image, from)?;
+        let mut lines = Vec::new(*self.text.allocator());
+        self.push_wanted(&mut lines, from, sought)?;
         push_titled(&mut self.text, path, name, &lines)
     }
 
@@ -93,13 +129,13 @@ impl<A: Allocator + Copy> Told<A> {
         &mut self,
         path: &str,
         member: &Member<'_>,
-        image: &Index<'_, B>,
+        sought: &Sought<'_, '_, B>,
     ) -> Result<(), AllocError>
-        ensures { OnOk result (AddsMember image.now path.now (plain_member member.now) self.old self.new) }
+        ensures { OnOk result (AddsMember sought.now.wanted sought.now.image.now path.now (plain_member member.now) self.old self.new) }
     {
         let alloc = *self.text.allocator();
         match read_module(alloc, member.bytes) {
-            Ok(module) => self.add_module(path, shown_name(member), &module, image),
+            Ok(module) => self.add_module(path, shown_name(member), &module, sought),
             Err(PlainModuleFault::Record { place, why }) => {
                 self.add_fault(path, member, place, why)
             }
@@ -112,19 +148,20 @@ impl<A: Allocator + Copy> Told<A> {
         &mut self,
         path: &str,
         members: &[Member<'_>],
-        image: &Index<'_, B>,
+        sought: &Sought<'_, '_, B>,
     ) -> Result<(), AllocError>
-        ensures { OnOk result (AddsMembers image.now path.now (map plain_member members.now) self.old self.new) }
+        ensures { OnOk result (AddsMembers sought.now.wanted sought.now.image.now path.now
+            (map plain_member members.now) self.old self.new) }
     {
         for member in members {
-            self.add_member(path, member, image)?;
+            self.add_member(path, member, sought)?;
         }
         Ok(())
     }
 }
 
 /// What is told of the file with these bytes at a path: of each of its members that is whole where its segments stand
-/// in an image, or its first fault; and the file's own fault.
+/// in an image, as far as that is wanted, or its first fault; and the file's own fault.
 ///
 /// # Errors
 /// There was no memory.
@@ -132,15 +169,15 @@ pub fn match_file<A: Allocator + Copy, B: Allocator + Copy>(
     alloc: A,
     path: &str,
     bytes: Vec<u8, A>,
-    image: &Index<'_, B>,
+    sought: &Sought<'_, '_, B>,
 ) -> Result<Told<A>, AllocError>
-    ensures { IfOk result
-        (λ t. spec.IsMatch image.now path.now bytes.items t.text.items t.spans.items t.faults.items) }
+    ensures { IfOk result (λ t. spec.IsMatch sought.now.wanted sought.now.image.now path.now bytes.items t.text.items
+        t.spans.items t.faults.items) }
 {
     let whole = Whole::of(alloc, bytes)?;
     let members = whole.members(alloc)?;
     let mut told = Told::new(alloc);
-    told.add_members(path, &members, image)?;
+    told.add_members(path, &members, sought)?;
     push_faults(&mut told.faults, path, &[], whole.fault)?;
     Ok(told)
 }

@@ -1,3 +1,4 @@
+pub mod Byte
 pub mod Items
 pub mod Places
 pub mod Pattern
