@@ -66,13 +66,18 @@ raw 0A";
 
 /// What the output of a run is, and what `list` tells of the file that it wrote.
 #[derive(Drop)]
-struct Done {
-    text: String,
-    written: Vec<u8>,
+pub struct Done {
+    pub text: String,
+    pub written: Vec<u8>,
 }
 
 /// Does what words ask for, over these files, where the file that is written takes so many bytes.
-fn run_in(alloc: Global, files: &[(&str, &[u8])], room: usize, line: &str) -> Result<Done, Fail> {
+pub fn run_in(
+    alloc: Global,
+    files: &[(&str, &[u8])],
+    room: usize,
+    line: &str,
+) -> Result<Done, Fail> {
     let mut words = Vec::new(alloc);
     for word in line.split(' ') {
         words.push(word)?;

@@ -32,11 +32,25 @@ const PROGRAM: [u8; 38] = [
     0xB8, 0x00, 0x10, 0x8E, 0xD8, 0x1A,
 ];
 
+/// One of the same image, without a relocated word and a byte behind it.
+const BARE: [u8; 37] = [
+    0x4D, 0x5A, 0x25, 0x00, 0x01, 0x00, 0x00, 0x00, 0x02, 0x00, 0x00, 0x00, 0xFF, 0xFF, 0x00, 0x00,
+    0x00, 0x00, 0x00, 0x00, 0x00, 0x00, 0x00, 0x00, 0x1C, 0x00, 0x00, 0x00, 0x00, 0x00, 0x00, 0x00,
+    0xB8, 0x00, 0x10, 0x8E, 0xD8,
+];
+
 /// A program of which a segment of the module behind it has the bytes from 3 to 15.
 const LINKED: [u8; 48] = [
     0x4D, 0x5A, 0x30, 0x00, 0x01, 0x00, 0x00, 0x00, 0x02, 0x00, 0x00, 0x00, 0xFF, 0xFF, 0x00, 0x00,
     0x00, 0x00, 0x00, 0x00, 0x00, 0x00, 0x00, 0x00, 0x1C, 0x00, 0x00, 0x00, 0x00, 0x00, 0x00, 0x00,
     0x00, 0x11, 0x22, 0xB8, 0x34, 0x12, 0xA1, 0x00, 0x00, 0x05, 0x06, 0x07, 0x08, 0x09, 0x0A, 0x33,
+];
+
+/// Another one that differs from it by the byte A1, at 6.
+const CHANGED: [u8; 48] = [
+    0x4D, 0x5A, 0x30, 0x00, 0x01, 0x00, 0x00, 0x00, 0x02, 0x00, 0x00, 0x00, 0xFF, 0xFF, 0x00, 0x00,
+    0x00, 0x00, 0x00, 0x00, 0x00, 0x00, 0x00, 0x00, 0x1C, 0x00, 0x00, 0x00, 0x00, 0x00, 0x00, 0x00,
+    0x00, 0x11, 0x22, 0xB8, 0x34, 0x12, 0xA3, 0x00, 0x00, 0x05, 0x06, 0x07, 0x08, 0x09, 0x0A, 0x33,
 ];
 
 const LINKED_MODULE: [u8; 65] = [
@@ -47,14 +61,16 @@ const LINKED_MODULE: [u8; 65] = [
     0x00,
 ];
 
-const FILES: [(&str, &[u8]); 8] = [
+const FILES: [(&str, &[u8]); 10] = [
     ("A", &MODULE),
     ("LIB", &LIBRARY),
     ("CUT", b"\x80\x03"),
     ("WRONG", b"\x8A\x02\x00\x40\x00"),
     ("P", &PROGRAM),
     ("SHORT", b"MZ"),
+    ("BARE", &BARE),
     ("LINKED", &LINKED),
+    ("CHANGED", &CHANGED),
     ("M", &LINKED_MODULE),
 ];
 
@@ -363,6 +379,102 @@ module \"! doslib: output: 40 Device",
 }
 
 #[test]
+fn comparisons(rt: HostRuntime) -> Result<(), Fail> {
+    run(
+        rt.alloc(),
+        20_000,
+        "\
+compare P BARE NONE
+= status 0
+no difference
+
+compare LINKED LINKED M
+= status 0
+no difference
+
+compare LINKED CHANGED M
+= status 1
+differ 00000006 A1 A3
+module \"M\" \"A\"
+  00000003 in \"CODE\" \"CODE\"
+
+compare CHANGED LINKED M
+= status 1
+differ 00000006 A3 A1
+
+compare LINKED P M
+= status 1
+differ 00000000 00 B8
+
+compare LINKED CHANGED A M CUT M
+= status 1
+differ 00000006 A1 A3
+module \"M\" \"A\"
+  00000003 in \"CODE\" \"CODE\"
+module \"M\" \"A\"
+  00000003 in \"CODE\" \"CODE\"
+! doslib: A: 11 SegmentIndex at place 6
+! doslib: CUT: 44 Truncated at place 0
+
+compare LINKED CHANGED NONE CUT M
+= status 3
+differ 00000006 A1 A3
+module \"M\" \"A\"
+  00000003 in \"CODE\" \"CODE\"
+! doslib: NONE: 1 Device: no such file
+! doslib: CUT: 44 Truncated at place 0",
+    )
+}
+
+#[test]
+fn programs_that_are_not_compared(rt: HostRuntime) -> Result<(), Fail> {
+    run(
+        rt.alloc(),
+        20_000,
+        "\
+compare M SHORT A
+= status 1
+! doslib: M: 35 Magic
+
+compare SHORT NONE A
+= status 1
+! doslib: SHORT: 37 Truncated
+
+compare NONE SHORT A
+= status 3
+! doslib: NONE: 1 Device: no such file
+
+compare LINKED SHORT A
+= status 1
+! doslib: SHORT: 37 Truncated
+
+compare LINKED M NONE
+= status 1
+! doslib: M: 35 Magic
+
+compare LINKED LOCKED A
+= status 3
+! doslib: LOCKED: 1 Device: no permission",
+    )
+}
+
+#[test]
+fn comparisons_that_are_not_printed(rt: HostRuntime) -> Result<(), Fail> {
+    run(
+        rt.alloc(),
+        8,
+        "\
+compare LINKED CHANGED M
+= status 3
+differ 0! doslib: output: 40 Device
+
+compare P BARE M
+= status 3
+no diffe! doslib: output: 40 Device",
+    )
+}
+
+#[test]
 fn failing_output(rt: HostRuntime) -> Result<(), Fail> {
     run(
         rt.alloc(),
@@ -375,7 +487,7 @@ module ! doslib: output: 40 Device",
 }
 
 /// Words that ask for help or the version, and wrong ones, each with how what the run did begins, and a part of it.
-const SAID: [(&str, &str, &str); 18] = [
+const SAID: [(&str, &str, &str); 23] = [
     ("help", "status 0\n", "Usage: doslib <COMMAND>\n"),
     ("--help", "status 0\n", "Usage: doslib <COMMAND>\n"),
     ("help list", "status 0\n", "Usage: doslib list <FILES>...\n"),
@@ -394,6 +506,27 @@ const SAID: [(&str, &str, &str); 18] = [
     ("match -h", "status 0\nTells which", "<PROGRAM> <FILES>..."),
     ("match", "status 2\n! ", "<PROGRAM>"),
     ("match P", "status 2\n! ", "<FILES>..."),
+    (
+        "compare -h",
+        "status 0\nTells the first byte",
+        "Usage: doslib compare <PROGRAM> <OTHER> <FILES>...\n",
+    ),
+    (
+        "compare -h",
+        "status 0\n",
+        "  <OTHER>     The program that it is held against\n",
+    ),
+    (
+        "compare",
+        "status 2\n! ",
+        "provided:\n!   <PROGRAM>\n!   <OTHER>\n!   <FILES>...\n",
+    ),
+    (
+        "compare P",
+        "status 2\n! ",
+        "provided:\n!   <OTHER>\n!   <FILES>...\n",
+    ),
+    ("compare P P", "status 2\n! ", "provided:\n!   <FILES>...\n"),
 ];
 
 #[test]
@@ -430,7 +563,7 @@ fn refused<'a>(
 }
 
 /// Words, and what a run of them does.
-const GROWTHS: [(&str, &str); 9] = [
+const GROWTHS: [(&str, &str); 12] = [
     (
         "list A NONE",
         "\
@@ -456,6 +589,27 @@ module \"M\" \"A\"
 left 00000000       3
 left 0000000F       1
 ! doslib: NONE: 1 Device: no such file",
+    ),
+    (
+        "compare LINKED CHANGED M NONE",
+        "\
+status 3
+differ 00000006 A1 A3
+module \"M\" \"A\"
+  00000003 in \"CODE\" \"CODE\"
+! doslib: NONE: 1 Device: no such file",
+    ),
+    (
+        "compare LINKED SHORT M",
+        "\
+status 1
+! doslib: SHORT: 37 Truncated",
+    ),
+    (
+        "compare P BARE M",
+        "\
+status 0
+no difference",
     ),
     (
         "names A LIB",

@@ -4,7 +4,7 @@
 
 use super::files::file_of;
 use byte_places::Index;
-use doslib_match::{Told, match_file};
+use doslib_match::{Sought, Told, Wanted, match_file};
 use omf_match::push_left;
 use refusing::refuse_each;
 use rows::{bytes_of, same};
@@ -19,11 +19,15 @@ fn search<A: Allocator + Copy>(
 ) -> Result<(Vec<u8, A>, Vec<u8, A>), AllocError> {
     let index = Index::of(alloc, image)?;
     let file = Vec::from_slice(alloc, file)?;
+    let sought = Sought {
+        image: &index,
+        wanted: Wanted::All,
+    };
     let Told {
         mut text,
         faults,
         spans,
-    } = match_file(alloc, "F", file, &index)?;
+    } = match_file(alloc, "F", file, &sought)?;
     push_left(alloc, &mut text, &spans, image.len())?;
     Ok((text, faults))
 }
@@ -46,7 +50,7 @@ fn searched<A: Allocator + Copy>(
 }
 
 /// A row without the line of a comment at its front.
-fn without_comment(row: &str) -> &str {
+pub fn without_comment(row: &str) -> &str {
     match row.split_once('\n') {
         Some((front, rest)) if front.starts_with('#') => rest,
         _ => row,
