@@ -220,6 +220,80 @@ MATCHES = [
     Change("a run of bytes that are left has one more", MATCH,
            "{run.end() - run.start():7}", "{run.end() - run.start() + 1:7}"),
 ]
+PAIR = "differing.py"
+IMAGES = "images = [programs.program_of(content).image for _, content in (program, other)]"
+LOOP = "    for path, content in files:\n        search.file(path, content)\n"
+OF_SEGMENT = "        segment = found.segments[index - 1]\n"
+PLACES = "matching.places_of(matching.pattern_of(found, index), segment.alignment or 1, self.image)"
+IF_TOLD, IS_PAIR = "        if lines:\n", 'hasattr(self, "address")'
+PAIRS = [
+    Change("an address is one higher", PAIR, 'f"differ {address:08X}"', 'f"differ {address + 1:08X}"'),
+    Change("an address is one of the file", PAIR, 'f"differ {address:08X}"',
+           'f"differ {address + programs.program_of(program[1]).header:08X}"'),
+    Change("an address has four digits where they are enough", PAIR, 'f"differ {address:08X}"',
+           'f"differ {address:04X}"'),
+    Change("the last byte that differs is told", PAIR, "for address in range(both):",
+           "for address in reversed(range(both)):"),
+    Change("the second program's byte stands first", PAIR, "for image in images)", "for image in reversed(images))"),
+    Change("a byte behind an end is 00", PAIR, '"--"', '"00"'),
+    Change("the end of an image is no difference", PAIR, "return None if len(image) == len(other) else both",
+           "return None"),
+    Change("what is behind the first program's end is no difference", PAIR,
+           "return None if len(image) == len(other)", "return None if len(image) <= len(other)"),
+    Change("the end of an image comes before another byte", PAIR, "for address in range(both):",
+           "for address in range(both if len(image) == len(other) else 0):"),
+    Change("headers are compared too", PAIR, IMAGES, "images = [content for _, content in (program, other)]"),
+    Change("what stands behind images is compared too", PAIR, IMAGES,
+           "images = [content[programs.program_of(content).header:] for _, content in (program, other)]"),
+    Change("images are compared as they are loaded", PAIR, IMAGES,
+           "images = [matching.replace(programs.program_of(content), words={\"minimum allocation\": 0}).loaded(1)\n"
+           "              for _, content in (program, other)]"),
+    Change("files are told of where images are the same", PAIR,
+           "        return Answer(SAME, ends=[(COMPARE, 0)])\n",
+           "        search = Search(images[0], -1)\n        search.answer.output = SAME\n"
+           "        for each in files:\n            search.file(*each)\n        return search.answer\n"),
+    Change("programs that differ are status 0", PAIR, "DIFFERENT = 1", "DIFFERENT = 0"),
+    Change("a file that isn't read is status 1", PAIR, "        search.file(path, content)\n",
+           "        search.file(path, content)\n        search.answer.status = DIFFERENT\n"),
+    Change("the second program's fault comes first", PAIR, "in (program, other):\n", "in (other, program):\n"),
+    Change("files are told of where the second program is at fault", PAIR, "            return told\n",
+           "            search = Search(b\"\", 0)\n            search.answer = told\n"
+           "            for each in files if (path, content) == other else []:\n                search.file(*each)\n"
+           "            return told\n"),
+    Change("segments are those of the second program", PAIR, "Search(images[0], address)",
+           "Search(images[1], address)"),
+    Change("a segment has the byte behind its end", PAIR, "< place + segment.length", "<= place + segment.length"),
+    Change("a segment hasn't its last byte", PAIR, "< place + segment.length", "< place + segment.length - 1"),
+    Change("a segment hasn't its first byte", PAIR, "not place <= self.address", "not place < self.address"),
+    Change("a segment has the bytes alone that it knows", PAIR,
+           "        if not place <= self.address < place + segment.length:\n",
+           "        if not place <= self.address < place + segment.length or (\n"
+           "                matching.pattern_of(found, index)[self.address - place] is None):\n"),
+    Change("an offset is one of the image", PAIR, "{self.address - place:08X}", "{self.address:08X}"),
+    Change("a segment's place stands before it", PAIR, "{self.address - place:08X}", "{place:08X}"),
+    Change("an offset has four digits where they are enough", PAIR, "{self.address - place:08X}",
+           "{self.address - place:04X}"),
+    Change("a class stands before its segment", PAIR, "{quoted(segment.name)} {quoted(segment.class_name)}",
+           "{quoted(segment.class_name)} {quoted(segment.name)}"),
+    Change("fix-ups are told of segments that have the byte", PAIR, "        return [f\"  {self",
+           "        return [*list(matching.lines_of(found, index, place, self.image))[1:], f\"  {self"),
+    Change("the bytes are told that no segment has", PAIR, "    search.answer.ends =",
+           "    search.left()\n    search.answer.ends ="),
+    Change("seventeen places of a segment are looked at", PAIR, LOOP,
+           f"    matching.MOST_PLACES = 17\n{LOOP}    matching.MOST_PLACES = 16\n"),
+    Change("fifteen places of a segment are looked at", PAIR, LOOP,
+           f"    matching.MOST_PLACES = 15\n{LOOP}    matching.MOST_PLACES = 16\n"),
+    Change("a segment has the byte at its first place alone", PAIR, OF_SEGMENT,
+           f"{OF_SEGMENT}        if place != {PLACES}[0]:\n            return []\n"),
+    Change("a segment has the byte once", PAIR, OF_SEGMENT,
+           f"{OF_SEGMENT}        if any(each < place for each in {PLACES} if self.address < each + segment.length):\n"
+           "            return []\n"),
+    Change("a module is told of that hasn't the byte", MATCH, IF_TOLD, f"        if lines or {IS_PAIR}:\n"),
+    Change("one segment of a module has the byte", MATCH, IF_TOLD,
+           f"        if {IS_PAIR}:\n            lines = lines[:1]\n{IF_TOLD}"),
+    Change("one module has the byte", MATCH, IF_TOLD,
+           f"        if lines and not ({IS_PAIR} and b'module' in self.answer.output):\n"),
+]
 MAKE = "making.py"
 LIBRARIES = [
     Change("a library is made of faulty files", MAKE,
@@ -266,4 +340,4 @@ OF_NAMES = [
     Change("a module of a library is told by its path alone", MAKE,
            'return source.path if source.kind == listing.MODULE else f"{source.path}({name})"', "return source.path"),
 ]
-CHANGES = [*RECORDS, *FILES, *NAMES, *PRINTED, *PROGRAMS, *MATCHES, *OF_NAMES, *LIBRARIES]
+CHANGES = [*RECORDS, *FILES, *NAMES, *PRINTED, *PROGRAMS, *MATCHES, *PAIRS, *OF_NAMES, *LIBRARIES]

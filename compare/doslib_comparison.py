@@ -8,11 +8,12 @@ from pathlib import Path
 
 import comparison
 from comparison import expect
-from generator import listings, programs as generated, searched
-from model import faults, listing, making, matching, programs, showing
+from generator import altered, listings, programs as generated, searched
+from model import differing, faults, listing, making, matching, programs, showing
 
 KINDS = (
-    listing.MODULE, listing.LIBRARY, listing.ARCHIVE, programs.PROGRAM, matching.MATCH, "unread", "output")
+    listing.MODULE, listing.LIBRARY, listing.ARCHIVE, programs.PROGRAM, matching.MATCH, differing.COMPARE, "unread",
+    "output")
 PROGRAM, IMAGE, OLD = "FILE.EXE", "IMAGE.BIN", b"an older file"
 no_counts, lines_of_limits = comparison.no_counts, comparison.lines_of_limits
 # one seed in so many has an output that fails
@@ -41,6 +42,7 @@ class Comparison(comparison.Comparison):
         self.compare_libraries(chance, files)
         self.compare_program(random.Random(f"{seed} of a program"))
         self.compare_match(random.Random(f"{seed} of a match"))
+        self.compare_pair(random.Random(f"{seed} of two programs"))
 
     def compare_names(self, chance, files):
         """What is told of the names of files."""
@@ -109,6 +111,17 @@ class Comparison(comparison.Comparison):
             answer, output = listing.at_failing_output(answer), comparison.FULL_DEVICE
         self.counts.ends.update(answer.ends)
         self.run(["match", PROGRAM, *(path for path, _ in files)], answer, output)
+
+    def compare_pair(self, chance):
+        """Where two programs differ, and which modules of files have the byte."""
+        program, other, given = altered.pair_and_files(chance)
+        program, other, *files = ((self.path_of(path), content) for path, content in (program, other, *given))
+        self.put([program, other, *files])
+        answer, output = comparison.asked(differing.compare_programs, program, other, files), None
+        if chance.random() < 0.02 and answer.output:
+            answer, output = listing.at_failing_output(answer), comparison.FULL_DEVICE
+        self.counts.ends.update(answer.ends)
+        self.run(["compare", *(path for path, _ in (program, other, *files))], answer, output)
 
     def path_of(self, path):
         """What a path is called here, which may be a system that hasn't all names of files."""

@@ -3,7 +3,7 @@
 The model must give them.
 """
 
-from model import listing, making, matching, programs, showing
+from model import differing, listing, making, matching, programs, showing
 
 A = "80 0300 0141 3B  8A 0200 00 74"
 PAGE_16 = "F0 0D00" + "AA" * 13
@@ -154,6 +154,85 @@ def check_matches():
     assert (answer.output, answer.error, answer.status) == (b"", b"doslib: M: 35 Magic\n", 1), answer
 
 
+# the image of that program, and of another one what is told: the module has its twelve bytes from 00000003 on
+IMAGE, TITLE = "001122 B83412 A1000005060708090A 33", 'module "M" "A"'
+DIFFERENT = [
+    ("the same", IMAGE, ["no difference"]),
+    ("no bytes", "", ["differ 00000000 00 --"]),
+    ("the first byte", "80" + IMAGE[2:], ["differ 00000000 00 80"]),
+    ("before the segment", "0011AB" + IMAGE[6:], ["differ 00000002 22 AB"]),
+    ("its first byte", "001122 B7" + IMAGE[9:], ["differ 00000003 B8 B7", TITLE, '  00000000 in "CODE" "CODE"']),
+    ("in a location", "001122 B83612" + IMAGE[13:], ["differ 00000004 34 36", TITLE, '  00000001 in "CODE" "CODE"']),
+    ("its last byte", IMAGE[:-5] + "0C 33", ["differ 0000000E 0A 0C", TITLE, '  0000000B in "CODE" "CODE"']),
+    ("behind it", IMAGE[:-2] + "FF", ["differ 0000000F 33 FF"]),
+    ("two bytes", "001122 B8340F" + IMAGE[13:-2] + "FF",
+     ["differ 00000005 12 0F", TITLE, '  00000002 in "CODE" "CODE"']),
+    ("longer", IMAGE + "0A", ["differ 00000010 -- 0A"]),
+    ("shorter by one", IMAGE[:-2], ["differ 0000000F 33 --"]),
+    ("shorter by two", IMAGE[:-5], ["differ 0000000E 0A --", TITLE, '  0000000B in "CODE" "CODE"']),
+]
+# a module with two segments of eight bytes, B of class A at any place and A of class B at even ones
+ZEROS = (
+    "80 0300 0143 39  96 0600 00 0141 0142 00  98 0700 28 0800 03 02 01 00  98 0700 48 0800 02 03 01 00"
+    f"  A0 0C00 01 0000 {8 * '00'} 00  A0 0C00 02 0000 {8 * '00'} 00  8A 0200 00 00")
+# how many bytes 00 a program has, which of them is another in the next one, and the rows of that module
+PLACES = [
+    (10, 7, ["00000007 in B A", "00000006 in B A", "00000005 in B A", "00000007 in A B", "00000005 in A B"]),
+    (40, 22, ["00000007 in B A", *(f"0000000{each} in A B" for each in (6, 4, 2, 0))]),
+    (40, 23, ["00000007 in A B", "00000005 in A B", "00000003 in A B", "00000001 in A B"]),
+    (48, 37, ["00000007 in A B"]), (48, 38, []), (7, 6, []),
+]
+
+
+def program_with(digits):
+    """A program whose header has two paragraphs, by the digits of its image."""
+    image = bytes.fromhex(digits)
+    return bytes([0x4D, 0x5A, 32 + len(image), 0, 1, 0, 0, 0, 2, 0]) + bytes(22) + image
+
+
+def check_differing():
+    """The same of programs that differ."""
+    program, module = bytes.fromhex(LINKED), bytes.fromhex(STANDS)
+    for title, digits, lines in DIFFERENT:
+        answer = differing.compare_programs(("P", program), ("Q", program_with(digits)), [("M", module)])
+        assert (answer.output.decode().splitlines(), answer.error) == (lines, b""), (title, answer)
+        assert answer.status == (0 if title == "the same" else 1), (title, answer)
+    for count, at, rows in PLACES:
+        images = count * "00", at * "00" + "01" + (count - at - 1) * "00"
+        one, other = (program_with(digits) for digits in images)
+        answer = differing.compare_programs(("P", one), ("Q", other), [("Z", bytes.fromhex(ZEROS))])
+        told = answer.output.decode().replace('"', "").splitlines()
+        titles = ["module Z C"] if rows else []
+        assert told == [f"differ {at:08X} 00 01", *titles, *(f"  {row}" for row in rows)], told
+    check_differing_faults(("P", program), ("Q", program_with(IMAGE[:-5])), ("M", module))
+    # the header's words, its table and what stands behind the image are none of it
+    one = bytes.fromhex(FIVE)
+    other = bytes.fromhex(FIVE.replace("0200 FFFF", "0300 FFFF").replace("0100 0000  B8", "0200 0000  B8")[:-2])
+    answer = differing.compare_programs(("P", one), ("Q", other), [("M", module)])
+    assert (answer.output, answer.error, answer.status) == (b"no difference\n", b"", 0), answer
+
+
+def check_differing_faults(program, other, module):
+    """What is at fault of programs that differ at the last byte of a module."""
+    def told(*given):
+        answer = differing.compare_programs(*given)
+        return answer.output.decode(), answer.error.decode(), answer.status
+
+    cut, missing = ("A", bytes.fromhex(A[:16])), ("B", "no such file")
+    of_cut, of_missing = "doslib: A: 44 Truncated at place 6\n", "doslib: B: 1 Device: no such file\n"
+    differ = "differ 0000000E 0A --\n"
+    for_module = f'{differ}{TITLE}\n  0000000B in "CODE" "CODE"\n'
+    assert told(program, other, [cut]) == (differ, of_cut, 1)
+    assert told(program, other, [missing, module]) == (for_module, of_missing, 3)
+    assert told(program, other, [module, missing, cut]) == (for_module, of_missing + of_cut, 3)
+    assert told(program, program, [cut, missing]) == ("no difference\n", "", 0)
+    assert told(missing, cut, [cut]) == ("", of_missing, 3)
+    assert told(program, missing, [cut]) == ("", of_missing, 3)
+    assert told(cut, missing, [cut]) == ("", "doslib: A: 35 Magic\n", 1)
+    assert told(("C", program[1][:-1]), cut, [cut]) == ("", "doslib: C: 37 Truncated\n", 1)
+    assert told(program, module, [cut]) == ("", "doslib: M: 35 Magic\n", 1)
+
+
 # a module y that offers x, and one that has no header record
 Y = "80 0700 05 792E6F626A 00  90 0800 00 01 01 78 0000 00 00  8A 0200 00 00"
 HEADLESS = "8A 0200 00 00"
@@ -202,4 +281,5 @@ def check():
     assert (both.status, both.error.decode().splitlines()[1:]) == (3, ["doslib: G: 1 Device: no such file"])
     check_programs()
     check_matches()
+    check_differing()
     check_libraries()

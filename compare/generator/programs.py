@@ -63,7 +63,12 @@ def in_paragraphs(length):
 def program_file(random):
     """A file, and the paragraph to load it at; at times its header is damaged, or it is cut."""
     length = LONG if random.random() < 0.02 else random.choice(LENGTHS)
-    image = bytes(random.randrange(256) for _ in range(min(length, 1000))).ljust(length, b"\xA5")
+    return file_of(random, bytes(random.randrange(256) for _ in range(min(length, 1000))).ljust(length, b"\xA5"))
+
+
+def file_of(random, image):
+    """The same of an image."""
+    length = len(image)
     count = random.choice([0, 0, 1, 2, 3, 20]) if length >= 2 else 0
     table = random.choice(TABLES) if count else any_word(random)
     end_of_table = table + 4 * count if count else 0

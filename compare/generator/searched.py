@@ -1,6 +1,7 @@
 """Programs for `doslib match`, and the modules of which segments stand in them."""
 
 import struct
+from dataclasses import dataclass
 
 from generator import libraries, listings, widening
 from generator.spelling import reclosed
@@ -74,17 +75,26 @@ def module(random):
     return b"".join(reclosed(random, kind, body) for kind, body in pieces if body)
 
 
+@dataclass
+class Stand:
+    """The place of a segment in an image, and of each of its bytes what the segment knows of it, or None."""
+
+    place: int
+    cells: list
+
+
 def image_of(random, modules):
-    """An image in which most of their segments stand, some twice, and some of those that debuggers read."""
-    image = any_data(random, random.choice([0, 0, 1, 17]))
+    """An image in which most of their segments stand, some twice, and some of those that debuggers read; and where."""
+    image, stands = any_data(random, random.choice([0, 0, 1, 17])), []
     for content in modules:
         found = read(lowering.lowered(content, True, ""), "")
         for index, segment in enumerate(found.segments, 1):
+            cells = matching.pattern_of(found, index)
             for _ in range(random.choice([0, 1, 1, 1, 1, 2, 18])):
                 image += any_data(random, -len(image) % segment.alignment)
-                image += bytes(
-                    random.randrange(256) if cell is None else cell for cell in matching.pattern_of(found, index))
-    return image + any_data(random, random.choice([0, 0, 1, 40]))
+                stands.append(Stand(len(image), cells))
+                image += bytes(random.randrange(256) if cell is None else cell for cell in cells)
+    return image + any_data(random, random.choice([0, 0, 1, 40])), stands
 
 
 def program_of(image):
@@ -96,8 +106,14 @@ def program_of(image):
 
 def files(random):
     """A program, and files: modules and libraries, of which some stand in it."""
+    image, _, given = image_and_files(random)
+    return program_of(image), given
+
+
+def image_and_files(random):
+    """An image, where segments stand in it, and files with these, each with its path."""
     modules = [module(random) for _ in range(random.choice([1, 1, 2, 3]))]
-    program = program_of(image_of(random, modules))
+    image, stands = image_of(random, modules)
     given = [widening.widened(random, each) if random.random() < 0.3 else each for each in modules]
     if random.random() < 0.3:
         given = [libraries.library(random, given)]
@@ -107,4 +123,4 @@ def files(random):
     if random.random() < 0.05:
         given.append(random.choice([listings.NO_FILE, listings.FOLDER]))
     random.shuffle(given)
-    return program, list(zip(random.sample(listings.PATHS, len(given)), given))
+    return image, stands, list(zip(random.sample(listings.PATHS, len(given)), given))

@@ -183,10 +183,15 @@ class Search:
         lines = []
         for index, segment in enumerate(found.segments, 1):
             for place in places_of(pattern_of(found, index), segment.alignment or 1, self.image):
-                lines += lines_of(found, index, place, self.image)
-                self.taken[place:place + segment.length] = b"\1" * segment.length
+                lines += self.segment(found, index, place)
         if lines:
             self.print([f"module {quoted(path.encode())} {quoted(name)}", *lines])
+
+    def segment(self, found, index, place):
+        """The lines of a segment that stands at a place, whose bytes are taken."""
+        length = found.segments[index - 1].length
+        self.taken[place:place + length] = b"\1" * length
+        return lines_of(found, index, place, self.image)
 
     def left(self):
         """The bytes that no segment has."""
