@@ -1,12 +1,12 @@
 """Changes of the model's rules, one at a time: the comparison must find a difference for each.
 
-A change is an edit of one file of the model, whose text stands there once. It is made in a copy of
-this folder, and that copy's `run` then compares until the first difference.
+A change is an edit of one file of the model, whose text stands there once. A process of its own loads the model
+with it, and compares until the first difference.
 """
 
-import concurrent.futures
-import shutil
-import subprocess
+import functools
+import importlib.machinery
+import multiprocessing
 import sys
 import tempfile
 from dataclasses import dataclass
@@ -16,6 +16,8 @@ import comparison
 import reaching
 
 HERE = Path(__file__).resolve().parent
+# the modules that make changes, and what was read of the model by them
+STAYING = ("__main__", "changes", "driving", "reaching")
 
 
 @dataclass
@@ -27,16 +29,12 @@ class Change:
     old: str
     new: str
 
-    def made(self, folder=HERE):
-        """The file of the model in a folder like this one, as the change makes it."""
-        text = (folder / "model" / self.file).read_text()
+    def made(self):
+        """The file of the model as the change makes it."""
+        text = (HERE / "model" / self.file).read_text()
         if text.count(self.old) != 1:
             raise ValueError(f"{self.title}: its text doesn't stand once in {self.file}")
         return text.replace(self.old, self.new)
-
-    def make(self, folder):
-        """Makes the change in a copy of this folder."""
-        (folder / "model" / self.file).write_text(self.made(folder))
 
     def lines(self):
         """The lines of the model where its text stands, each with the file's name."""
@@ -315,23 +313,57 @@ def check_texts(some):
             raise ValueError(f"{change.title}: another change has this title")
 
 
-def first_difference(kind, program, change, seeds):
+class Loader(importlib.machinery.SourceFileLoader):
+    """Loads a module of this folder, of which each is compiled once for all changes."""
+
+    codes = {}
+
+    def get_code(self, fullname):
+        """What the module's file is compiled to, as it stands or as a change makes it."""
+        if self.path not in self.codes:
+            self.codes[self.path] = compile(Path(self.path).read_bytes(), self.path, "exec")
+        return self.codes[self.path]
+
+
+def finder_here(folder):
+    """Finds modules in this folder and below it by that loader."""
+    if not Path(folder).is_relative_to(HERE):
+        raise ImportError
+    return importlib.machinery.FileFinder(folder, (Loader, [".py"]))
+
+
+def load_anew(comparison):
+    """The module that compares, loaded anew with all of this folder but those that make changes."""
+    for name, module in list(sys.modules.items()):
+        file = getattr(module, "__file__", None)
+        if file and name not in STAYING and Path(file).is_relative_to(HERE):
+            del sys.modules[name]
+    return importlib.import_module(comparison)
+
+
+def first_difference(comparison, program, change, seeds):
     """The first of some seeds in which a change makes a difference, and the difference; None for none.
 
-    It is looked for by a command line of some kind, which driving.py describes.
+    The model is loaded anew, with the change, so this is the last that a process does.
     """
-    with tempfile.TemporaryDirectory(prefix="omf-changed-") as folder:
-        copy = Path(folder) / "compare"
-        shutil.copytree(HERE, copy)
-        (Path(folder) / "docs").mkdir()
-        shutil.copy(HERE.parent / "docs" / "faults.txt", Path(folder) / "docs")
-        change.make(copy)
-        done = subprocess.run(
-            [sys.executable, copy / kind.name, *kind.words, "--program", program, "--until-difference"],
-            input="\n".join(map(str, seeds)), stdout=subprocess.PIPE, text=True, check=False)
-    if done.returncode not in (0, 1):
-        raise ValueError(f"{change.title}: the changed model failed")
-    return done.stdout.strip() or None
+    file = str(HERE / "model" / change.file)
+    Loader.codes[file] = compile(change.made(), file, "exec")
+    compare_seeds = load_anew(comparison).compare_seeds
+    for seed in seeds:
+        with tempfile.TemporaryDirectory(prefix="omf-changed-") as folder:
+            _, differences = compare_seeds(program, folder, [seed])
+        if differences:
+            return differences[0]
+    return None
+
+
+def tried(comparison, program, change_and_seeds):
+    """A change and its first difference; that the changed model can't be loaded is no difference."""
+    change, seeds = change_and_seeds
+    try:
+        return change, first_difference(comparison, program, change, seeds)
+    except Exception as problem:
+        raise ValueError(f"{change.title}: the changed model failed") from problem
 
 
 def try_all(kind, program, chosen, jobs):
@@ -339,14 +371,15 @@ def try_all(kind, program, chosen, jobs):
 
     Where the changed model itself fails that is told: it says little of the rule.
     """
-    missed, seeds, files = 0, range(kind.most_seeds), {change.file for change in chosen}
-    reached = reaching.seeds_of_lines(kind.comparison, program, files, seeds, jobs)
-
-    def tried(change):
-        return first_difference(kind, program, change, reaching.reaching_first(change.lines(), reached, seeds))
-
-    with concurrent.futures.ThreadPoolExecutor(jobs) as pool:
-        for change, difference in zip(chosen, pool.map(tried, chosen)):
+    missed, files = 0, {change.file for change in chosen}
+    sys.path_hooks.insert(0, finder_here)
+    sys.path_importer_cache.clear()
+    load_anew(kind.comparison.__name__)
+    reached = reaching.reached_by_all(kind.comparison, program, files, range(kind.most_seeds), jobs)
+    one = functools.partial(tried, kind.comparison.__name__, program)
+    tasks = ((change, reached.in_order(change.lines())) for change in chosen)
+    with multiprocessing.get_context("fork").Pool(jobs, maxtasksperchild=1) as pool:
+        for change, difference in pool.imap(one, tasks):
             missed += difference is None
             print(f"{answer_of(difference):>20}  {change.file:16} {change.title}", flush=True)
     print(f"{len(chosen):,} changes, not found in {kind.most_seeds:,} seeds: {missed:,}")

@@ -31,8 +31,6 @@ class Kind:
     check_worked: Callable
     changes: list
     most_seeds: int
-    # words of the command line that say this kind
-    words: tuple = ()
 
 
 def find_program(name):
@@ -69,16 +67,6 @@ def compare_all(kind, program, seeds, jobs):
     return differences
 
 
-def until_difference(kind, program, seeds):
-    """Compares seeds up to the first difference, and prints that, or nothing."""
-    for seed in seeds:
-        _, differences = compare_in_new_folder(kind.comparison.__name__, program, [seed])
-        if differences:
-            print(*differences)
-            return differences
-    return []
-
-
 def keep(kind, program, seed, folder):
     """Compares one seed, and leaves the files of each of its steps in a new folder."""
     folder.mkdir()
@@ -100,15 +88,12 @@ def parser_of(kind):
         "--changed", metavar="WORDS", nargs="?", const="",
         help="changes the model's rules, of which the titles have these words, one at a time:"
         " each must make a difference")
-    parser.add_argument("--until-difference", action="store_true", help=argparse.SUPPRESS)
     return parser
 
 
 def run(kind, arguments, program):
     """Does what is asked for; answers whether anything differs."""
     seeds = range(arguments.first, arguments.first + arguments.count)
-    if arguments.until_difference:
-        return until_difference(kind, program, map(int, sys.stdin))
     kind.check_worked()
     changes.check_texts(kind.changes)
     if arguments.changed is not None:

@@ -640,8 +640,7 @@ class Linking:
             place = lowering.own_place(owner.content, linked, fault.place)
             if fault.number == TYPE:
                 fault.kind = owner.content[place]
-            if place == 0:
-                fault.why = foreign.kind_of(owner.content)
+            fault.why = foreign.kind_of(owner.content)
             fault.place = place
             fault.owner = owner.word
         if fault.excess is not None:

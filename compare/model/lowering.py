@@ -46,7 +46,7 @@ GROUP_METHOD, FLAT, GROUPS, ENDS = 1, b"FLAT", 0x9A, (0x8A, 0x8B)
 NOTHING = bytes([0x00, 0xDA])
 FRAME = 65_536
 # the faults
-DATA_TYPE, ABOVE_16_BITS, LOCATION, BODY, TOO_LONG = 48, 49, 50, 51, 52
+DATA_TYPE, ABOVE_16_BITS, LOCATION, BODY = 48, 49, 50, 51
 IS_EASY_OMF, IS_IMPORTED, IS_FLAT = 63, 64, 65
 
 
@@ -559,20 +559,36 @@ def itself(name):
     return name
 
 
+def names_in_parts(body):
+    """The entries of an EXTDEF, in as many bodies as a record can have: names that others mean may be longer."""
+    entries, begin = Entries(body), 0
+    while entries.has_more():
+        place = entries.place
+        entries.name(), entries.index()
+        if entries.place - begin > LONGEST_BODY:
+            yield body[begin:place]
+            begin = place
+    yield body[begin:]
+
+
+def framed(kind, body):
+    """The bytes of a record, or of several that say the same."""
+    bodies = names_in_parts(body) if len(body) > LONGEST_BODY else [body]
+    return b"".join(Spelling().framed(kind, each) for each in bodies)
+
+
 def lowered(content, keeps_debug, owner=None, means=itself):
     """The bytes of a module that is lowered, or the fault of its first record that can't be."""
     lowering, found, place = Lowering(keeps_debug, means), [], 0
     for frame in whole_frames(content):
         try:
             kind, body = lowering.lower(frame.kind, frame.body)
-            if len(body) > LONGEST_BODY:
-                raise Obstacle(TOO_LONG)
         except Obstacle as obstacle:
             raise Fault(obstacle.number, owner, place) from None
         if (kind, body) == (frame.kind, frame.body):
             found.append(content[place:frame.behind])
         else:
-            found.append(Spelling().framed(kind, body))
+            found.append(framed(kind, body))
         place = frame.behind
     return b"".join([*found, content[place:]])
 

@@ -9,7 +9,6 @@ from itertools import repeat
 from model import comdats, lowering, module, parsing, showing
 from model.faults import Fault
 from model.libraries import whole_frames
-from model.records import LONGEST_BODY, Spelling
 
 BODY, NO_END, NO_SAYING = 6, 8, 51
 # the types that a link takes beside those that `omf` reads
@@ -34,24 +33,6 @@ def check_body(frame, place):
                 raise body_fault(frame.kind, place, at) from None
 
 
-def names_in_parts(body):
-    """The entries of an EXTDEF, in as many bodies as a record can have: names that others mean may be longer."""
-    entries, begin = lowering.Entries(body), 0
-    while entries.has_more():
-        place = entries.place
-        entries.name(), entries.index()
-        if entries.place - begin > LONGEST_BODY:
-            yield body[begin:place]
-            begin = place
-    yield body[begin:]
-
-
-def framed(kind, body):
-    """The bytes of a record, or of several that say the same."""
-    bodies = names_in_parts(body) if len(body) > LONGEST_BODY else [body]
-    return b"".join(Spelling().framed(kind, each) for each in bodies)
-
-
 def front_of(content, keeps_debug, means, fates):
     """The bytes of a module as it is lowered, up to the first record that can't be, and that one's fault or None."""
     records, found, place = comdats.ComdatLowering(keeps_debug, means, fates), [], 0
@@ -64,7 +45,7 @@ def front_of(content, keeps_debug, means, fates):
         except lowering.Obstacle as obstacle:
             return b"".join(found), Fault(obstacle.number, place=place)
         is_same = linked == [(frame.kind, frame.body)]
-        found += [content[place:frame.behind]] if is_same else [framed(kind, body) for kind, body in linked]
+        found += [content[place:frame.behind]] if is_same else [lowering.framed(kind, body) for kind, body in linked]
         place = frame.behind
     return b"".join([*found, content[place:]]), None
 
