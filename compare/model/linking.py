@@ -545,10 +545,11 @@ class Linking:
         behind += made_module(STACK, added)
         contents += [] if added is None else [added]
         before = made_module(ORDER, self.order_module(contents))
-        self.warn_of_wide_segments(contents)
         # the modules as they are linked, and as they were read
         self.contents = [each.content for each in before] + contents
         self.handed = before + taken + behind
+        self.check_cut()
+        self.warn_of_wide_segments(contents)
         # of each fix-up that had 32 bits, the upper word of the number there
         upper_words = [
             comdats.upper_words(each.content, self.job.keeps_debug, own) for each, own in zip(taken, fates)]
@@ -600,6 +601,14 @@ class Linking:
             text = f"the stack is cut to {self.job.stack.length:,} bytes"
             self.warnings.append(f"{PROGRAM}: warning: {text}\n")
         return changed[len(before):], added
+
+    def check_cut(self):
+        """Fault 17 is data in what a stack that is cut has no more."""
+        try:
+            for owner, content in enumerate(self.contents if self.job.stack else []):
+                module.read(content, owner)
+        except Fault as fault:
+            raise self.with_words(fault) from None
 
     def warn_of_wide_segments(self, contents):
         """Segments of 32 bits are linked as ones of 16, which is told."""
