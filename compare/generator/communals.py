@@ -135,7 +135,7 @@ def module_of_communals(random, title, variables, locations):
 
 
 def module_of_local_variables(
-        public=None, start=None, group=None, grouped=1, clashes=False, data_segment=1):
+        public=None, start=None, group=None, grouped=1, clashes=False, data_segment=1, far=Declared(True, 3, 4)):
     """A module with three variables that are local to it, near and far, and the address of each.
 
     It has a local public of a name, or starts at a local external that it doesn't define, or has a
@@ -144,7 +144,7 @@ def module_of_local_variables(
     """
     spelling = records.Spelling()
     variables = [
-        (b"near", Declared(False, 2)), (b"far", Declared(True, 3, 4)), (b"other", Declared(True, 1, 2))]
+        (b"near", Declared(False, 2)), (b"far", far), (b"other", Declared(True, 1, 2))]
     targets = [Reference(
         Direct(Method.TARGET), Direct(Method.EXTERNAL, number), None) for number in range(1, 5)]
     names = [b"", b"_DATA", b"DATA", b"_BSS", b"BSS", group or b""]

@@ -1408,6 +1408,11 @@ class JobMaker:
         self.files["0.obj"], self.folders = module_of_form(0, 0xFF00, None, []), []
         return self.case(["0,out,list/s;"], TLINK)
 
+    def make_detailed_locals(self):
+        """A detailed map of the segments of local variables, of which a far one is as long as its offsets reach."""
+        self.files["0.obj"], self.folders = module_of_local_variables(far=Declared(True, 65_536)), []
+        return self.case(["0,out,list/s;"], TLINK)
+
     def make_defined_over(self):
         """A program in the place of its file of definitions."""
         self.files["0.obj"], self.folders = module_of_publics([b"x"]), []
@@ -1830,7 +1835,7 @@ MORE_LINES = [
     *[(JobMaker.make_communal_data, kind, allocation) for kind in (0xC2, 0xC3) for allocation in (0, 1)],
     *[(JobMaker.make_comdats, modules) for modules in comdats.CASES],
     (JobMaker.make_later,), (JobMaker.make_all_left_out,), (JobMaker.make_defined_over,),
-    (JobMaker.make_cases, TLINK, False, ["/c/c-"]), (JobMaker.make_whole_part,)]
+    (JobMaker.make_cases, TLINK, False, ["/c/c-"]), (JobMaker.make_whole_part,), (JobMaker.make_detailed_locals,)]
 MORE_WORDS = [
     *[(JobMaker.make_spoken, *words) for words in SPOKEN_WORDS],
     *[(JobMaker.make_by_dos, *words) for words in BY_DOS_WORDS],
