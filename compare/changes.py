@@ -332,36 +332,39 @@ def finder_here(folder):
     return importlib.machinery.FileFinder(folder, (Loader, [".py"]))
 
 
-def load_anew(comparison):
-    """The module that compares, loaded anew with all of this folder but those that make changes."""
+def load_anew(kind):
+    """The module of this name that compares, loaded anew with all of this folder but those that make changes."""
     for name, module in list(sys.modules.items()):
         file = getattr(module, "__file__", None)
         if file and name not in STAYING and Path(file).is_relative_to(HERE):
             del sys.modules[name]
-    return importlib.import_module(comparison)
+    return importlib.import_module(kind)
 
 
-def first_difference(comparison, program, change, seeds):
+def first_difference(kind, program, change, seeds):
     """The first of some seeds in which a change makes a difference, and the difference; None for none.
 
     The model is loaded anew, with the change, so this is the last that a process does.
     """
     file = str(HERE / "model" / change.file)
     Loader.codes[file] = compile(change.made(), file, "exec")
-    compare_seeds = load_anew(comparison).compare_seeds
+    compare_seeds = load_anew(kind).compare_seeds
     for seed in seeds:
         with tempfile.TemporaryDirectory(prefix="omf-changed-") as folder:
-            _, differences = compare_seeds(program, folder, [seed])
+            try:
+                _, differences = compare_seeds(program, folder, [seed])
+            except Exception as problem:  # a file of the changed model that the program doesn't make, say
+                differences = [f"seed {seed}: {comparison.MODEL_FAILED}: {problem!r}"]
         if differences:
             return differences[0]
     return None
 
 
-def tried(comparison, program, change_and_seeds):
+def tried(kind, program, change_and_seeds):
     """A change and its first difference; that the changed model can't be loaded is no difference."""
     change, seeds = change_and_seeds
     try:
-        return change, first_difference(comparison, program, change, seeds)
+        return change, first_difference(kind, program, change, seeds)
     except Exception as problem:
         raise ValueError(f"{change.title}: the changed model failed") from problem
 
