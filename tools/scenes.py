@@ -145,7 +145,7 @@ CUT_PUBLIC = (
 HELLO_EXE = (struct.pack("<2s15H", b"MZ", 0x35, 1, 1, 2, 0x11, 0xFFFF, 2, 0x100, 0, 0, 0, 0x1C, 0, 1, 0)
              + bytes.fromhex("B8 0100  8E D8  B4 09  31 D2  CD 21  B8 004C  CD 21") + b"Hi!\r$")
 # one that differs from it by a byte of its code
-OLD_EXE = HELLO_EXE.replace(bytes.fromhex("8E D8"), bytes.fromhex("8E C0"))
+OLD_EXE = HELLO_EXE.replace(bytes.fromhex("B4 09"), bytes.fromhex("B4 40"))
 # its module
 HELLO_ASM = (
     record(THEADR, name(b"hello.asm")) + names(b"", b"_TEXT", b"CODE", b"_DATA", b"DATA") + segment(0x68, 16, 2, 3)
@@ -334,7 +334,7 @@ SHOWN = {
         "doslib: MAIN.OBJ: 54 DataType at place 11": Lines((
             Said("doslib match HELLO.EXE MAIN.OBJ", 1, {"HELLO.EXE": HELLO_EXE, "MAIN.OBJ": STRANGE_VARIABLE}),
             Said("doslib match MAIN.OBJ HELLO.OBJ", 1, {"MAIN.OBJ": STRANGE_VARIABLE, "HELLO.OBJ": HELLO_ASM}))),
-        "differ 00000004 D8 C0": Printed("doslib compare HELLO.EXE OLD.EXE HELLO.OBJ", {
+        "differ 00000006 09 40": Printed("doslib compare HELLO.EXE OLD.EXE HELLO.OBJ", {
             "HELLO.EXE": HELLO_EXE, "OLD.EXE": OLD_EXE, "HELLO.OBJ": HELLO_ASM}),
         'missing "_exit": MAIN.OBJ wants it in the record at 00000025': Printed(
             "doslib names MAIN.OBJ GFX.LIB", {"MAIN.OBJ": DRAWS, "GFX.LIB": library(16, LINE, OLD_LINE)}),
